@@ -1,0 +1,4 @@
+pub mod Places
+pub mod Bearing
+pub mod Chains
+pub mod Checks
