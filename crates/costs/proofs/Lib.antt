@@ -1,0 +1,4 @@
+pub mod Orders
+pub mod Estimates
+pub mod Totals
+pub mod Sums
