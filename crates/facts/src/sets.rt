@@ -15,7 +15,7 @@ use rising::Rising;
 pub mod rising;
 
 // A set of facts; a fact is a number from 0 to 63. Bit f of the word says whether fact f is in it.
-#[derive(Clone, Copy, PartialEq, Eq)]
+#[derive(Clone, Copy, PartialEq, Eq, Debug)]
 pub struct FactSet {
     word: u64,
 }

@@ -46,7 +46,7 @@ impl<'a> Task<'a> {
     pub fn get(&self, number: u16) -> Option<Move>
         ensures { λ r. ⌜ Cases r ((m : Move) → At (movesOf (now (self .entry))) number m → ⊥) (At (movesOf (now (self .entry))) number) ⌝ }
     {
-        get(self.draft.moves, number)
+        get(self.moves(), number)
     }
 }
 

@@ -12,7 +12,7 @@ pub loop-number-again : need.loop-number-again
 loop-number-again g c =
     let moves = movesOf (c .args .task .now) in
     let joined : c .join-cost .result ≡ g .V·Tally .join (c .loop-number .cost) (chargeOf (g .V·Tally) (c .in-Continue-m .m)) =
-        c .join-cost .ensures ∙ ap (g .V·Tally .join (c .loop-number .cost)) (c .charge .ensures) in
+    c .join-cost .ensures ∙ ap (g .V·Tally .join (c .loop-number .cost)) (c .charge .ensures) in
     subst (λ l. Costs (g .V·Tally) moves l (c .join-cost .result)) (sym (take-more (c .args .list .now) (c .loop-number .number-index) 0 (c .loop-number-test .taken)))
     (subst (Costs (g .V·Tally) moves _) (sym joined) (costs-more (g .V·Tally·met .lawful) (c .loop-number .inv) (c .in-Continue-m .ensures tt)))
 
