@@ -102,11 +102,9 @@ impl FactSet {
 }
 
 // Sets with the same facts are the same set.
-pub fn equal_facts_equal_sets() -> u8
+pub fn equal_facts_equal_sets()
     ensures { λ _. ⌜ EqualFactsEqualSets ⌝ }
-{
-    0
-}
+{}
 
 // One word of bits, and what each operation does to every bit.
 
