@@ -1,4 +1,5 @@
-use crate::sets::set_of;
+use crate::move_of;
+use crate::set_of;
 use facts::FactSet;
 use facts::FactSetDebug;
 use facts::FactSetPartialEq;
@@ -8,17 +9,6 @@ use tasks::Draft;
 use tasks::Move;
 use tasks::Outcome;
 use tasks::Task;
-
-// A move of group 0 at 1.
-pub fn move_of(needs: &[u8], makes: &[u8], breaks: &[u8]) -> Result<Move, Fail> {
-    Ok(Move {
-        group: 0,
-        price: 1,
-        needs: set_of(needs)?,
-        makes: set_of(makes)?,
-        breaks: set_of(breaks)?,
-    })
-}
 
 // The number and the move of the refusal, or `None` where the draft passes.
 fn refused(draft: Draft<'_>) -> Option<(u16, u16)> {

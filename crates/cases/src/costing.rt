@@ -1,4 +1,4 @@
-use crate::checking::move_of;
+use crate::move_of;
 use costs::Estimate;
 use costs::EstimateTally;
 use costs::Minutes;

@@ -1,17 +1,9 @@
+use crate::set_of;
 use facts::FactSet;
 use facts::FactSetDebug;
 use facts::FactSetPartialEq;
 use facts::RisingIterator;
 use std::test::*;
-
-// The set of these facts.
-pub fn set_of(facts: &[u8]) -> Result<FactSet, Fail> {
-    let mut set = FactSet::empty();
-    for fact in facts {
-        set = set.with(*fact).ok_or("no fact")?;
-    }
-    Ok(set)
-}
 
 #[test]
 fn facts_up_to_63() -> Result<(), Fail> {
