@@ -1,0 +1,9 @@
+pub mod Problem
+pub mod Meets
+pub mod Records
+pub mod Openings
+pub mod Runs
+pub mod Refusals
+pub mod Queue
+pub mod Promise
+pub mod Examples
