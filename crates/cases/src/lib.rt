@@ -4,6 +4,8 @@ mod checking;
 #[cfg(test)]
 mod costing;
 #[cfg(test)]
+mod reading;
+#[cfg(test)]
 mod sets;
 
 #[cfg(test)]

@@ -1,0 +1,13 @@
+pub mod Cutting
+pub mod Decimals
+pub mod Leading
+pub mod Risings
+pub mod Listings
+pub mod Wholes
+pub mod Taking
+pub mod Fronting
+pub mod Filling
+pub mod Beginning
+pub mod Endings
+pub mod Unique
+pub mod Backwards

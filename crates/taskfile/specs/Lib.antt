@@ -1,0 +1,13 @@
+pub mod Flaws
+pub mod Keys
+pub mod Entries
+pub mod Fronts
+pub mod Faults
+pub mod Tellings
+pub mod Outcomes
+pub mod Texts
+pub mod Headings
+pub mod Cuts
+pub mod Values
+pub mod Listings
+pub mod Steps
