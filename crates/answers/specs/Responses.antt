@@ -8,12 +8,17 @@ use Rattle.tasks.specs.Faults.{Faultless, FirstFault}
 use Rattle.tasks.specs.Refusals.{numberOf as faultNumber}
 use Rattle.tasks.specs.declared.draft.Draft.{Draft}
 use Rattle.tasks.specs.declared.moves.Move.{Move}
+use Rattle.tasks.specs.Tasks.{draftOf}
 use Rattle.tasks.specs.declared.refusal.Fault.{Fault}
+use Rattle.tasks.specs.declared.task.Task.{Task}
+use Rattle.costs.specs.declared.estimate.Estimate.{Estimate}
+use Rattle.costs.specs.declared.minutes.Minutes.{Minutes}
 use Rattle.taskfile.specs.Flaws.{numberOf as flawNumber}
 use Rattle.taskfile.specs.Headings.{DraftOf}
 use Rattle.taskfile.specs.Outcomes.{Outcome}
 use Rattle.taskfile.specs.declared.heading.Heading.{Heading}
 use Rattle.taskfile.specs.declared.misread.Misread.{Misread}
+use Rattle.answers.specs.Floors.{IsFloor}
 use Rattle.answers.specs.Texts.{refusedText, AcceptedText}
 
 -- the bytes are a task file that says the draft d, read with room for 1,024 moves
@@ -35,7 +40,7 @@ pub record Misreads (src : List ℕ) (m : Misread) : Type 0 where
 -- what is printed of a draft
 pub data Judged (d : Draft) (text : List ℕ) : Type 0 where
   faulty : {e : Fault} → FirstFault d e → text ≡ refusedText (faultNumber (e .refusal)) 0 → Judged d text
-  accepted : Faultless d → AcceptedText d text → Judged d text
+  accepted : {t : Task} {floor : Estimate Minutes} → Faultless d → draftOf t ≡ d → IsFloor t 255 floor → AcceptedText d floor text → Judged d text
 
 pub data Response (src text : List ℕ) : Type 0 where
   misread : {m : Misread} → Misreads src m → text ≡ refusedText (flawNumber (m .flaw)) (m .line) → Response src text

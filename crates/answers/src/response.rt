@@ -4,6 +4,7 @@ ghost use lib.ListN.{length};
 ghost use Rattle.std.specs.Of.String.{string-bytes};
 ghost use Rattle.std.specs.Vec.{made};
 ghost use Rattle.answers.specs.Responses.{Response, Judged};
+use crate::floors::floor_of;
 use crate::texts::accepted_text;
 use crate::texts::refused_text;
 use facts::FactSet;
@@ -49,7 +50,7 @@ fn judge(heap: Global, draft: Draft<'_>) -> Result<String, AllocError>
     ensures { λ r. ⌜ made r (λ text. Judged (draft .entry) (string-bytes text)) ⌝ }
 {
     match check(draft) {
-        Ok(_) => accepted_text(heap, &draft),
+        Ok(task) => accepted_text(heap, &draft, floor_of(&task)),
         Err(fault) => refused_text(heap, fault.refusal.number(), 0),
     }
 }

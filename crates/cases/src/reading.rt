@@ -167,8 +167,18 @@ fn prints(heap: Global, at: usize, text: &[u8], answer: &str) -> Result<(), Fail
 #[test]
 fn printed(rt: LibcRuntime) -> Result<(), Fail> {
     let heap = rt.alloc();
-    prints(heap, 15, b"", "facts=3\nmoves=2\nstart=0\ngoal=1,2\n")?;
-    prints(heap, 3, b"goal=\n", "facts=3\nmoves=2\nstart=0\ngoal=\n")?;
+    prints(
+        heap,
+        15,
+        b"",
+        "facts=3\nmoves=2\nstart=0\ngoal=1,2\nfloor=19\n",
+    )?;
+    prints(
+        heap,
+        3,
+        b"goal=\n",
+        "facts=3\nmoves=2\nstart=0\ngoal=\nfloor=0\n",
+    )?;
     prints(heap, 2, b"start=3\n", "answer=refused\nnumber=5\nline=0\n")?;
     prints(
         heap,

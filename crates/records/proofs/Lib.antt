@@ -1,0 +1,4 @@
+pub mod Places
+pub mod Picks
+pub mod Entering
+pub mod Steps

@@ -1,0 +1,4 @@
+pub mod Choice
+pub mod Tables
+pub mod Entries
+pub mod Openings

@@ -1,0 +1,15 @@
+pub mod Order
+pub mod Subsets
+pub mod Tops
+pub mod Falls
+pub mod Engine
+pub mod Solutions
+pub mod Soundness
+pub mod Seen
+pub mod Cells
+pub mod OneFact
+pub mod TwoFacts
+pub mod Decisions
+pub mod Keeping
+pub mod KeepingPairs
+pub mod Closing
