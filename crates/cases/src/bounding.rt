@@ -115,6 +115,26 @@ fn worst_is_not_overdrawn() -> Result<(), Fail> {
 }
 
 #[test]
+fn pairs_in_worst() -> Result<(), Fail> {
+    let moves = two_moves()?;
+    let Ok(task) = tasks::check(draft_of(&moves)?) else {
+        return Err(Fail::new("refused"));
+    };
+    let mut all = [Estimate::<Worst>::Never; 9];
+    let mut second = [Estimate::<Worst>::Never; 9];
+    check(work_out_pair(&task, 255, &mut all).is_ok())?;
+    check(work_out_pair(&task, 2, &mut second).is_ok())?;
+    check_eq(
+        highest(Pair::of(&task, 255, &all).estimate(task.goal())),
+        Some(15),
+    )?;
+    check_eq(
+        highest(Pair::of(&task, 2, &second).estimate(task.goal())),
+        Some(4),
+    )
+}
+
+#[test]
 fn pairs_and_a_pile() -> Result<(), Fail> {
     let moves = two_moves()?;
     let Ok(task) = tasks::check(draft_of(&moves)?) else {
@@ -245,6 +265,17 @@ fn other_tasks_and_short_tables() -> Result<(), Fail> {
     }) else {
         return Err(Fail::new("refused"));
     };
+    let dearer = [
+        Move {
+            price: 16,
+            ..moves[0]
+        },
+        moves[1],
+    ];
+    let Ok(changed) = tasks::check(draft_of(&dearer)?) else {
+        return Err(Fail::new("refused"));
+    };
+    check(!single.fits(&changed))?;
     check(!single.fits(&wider) && !single.fits(&later) && single.fits(&other))?;
     check_eq(
         minutes(Single::of(&task, 255, &table[0..2]).estimate(task.goal())),
