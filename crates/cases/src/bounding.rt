@@ -66,38 +66,61 @@ fn highest(estimate: Estimate<Worst>) -> Option<u16> {
     }
 }
 
-#[test]
-fn singles_and_their_sums() -> Result<(), Fail> {
+// The single table's estimate of the goal, with these groups counted.
+fn single(groups: u8) -> Result<Option<u32>, Fail> {
     let moves = two_moves()?;
     let Ok(task) = tasks::check(draft_of(&moves)?) else {
         return Err(Fail::new("refused"));
     };
-    let mut all = [Estimate::<Minutes>::Never; 3];
+    let mut table = [Estimate::<Minutes>::Never; 3];
+    check(work_out_single(&task, groups, &mut table).is_ok())?;
+    Ok(minutes(Single::of(&task, groups, &table).estimate(task.goal())))
+}
+
+// The pair table's estimate of a set, with all groups counted.
+fn pair(set: FactSet) -> Result<Option<u32>, Fail> {
+    let moves = two_moves()?;
+    let Ok(task) = tasks::check(draft_of(&moves)?) else {
+        return Err(Fail::new("refused"));
+    };
+    let mut table = [Estimate::<Minutes>::Never; 9];
+    check(work_out_pair(&task, 255, &mut table).is_ok())?;
+    Ok(minutes(Pair::of(&task, 255, &table).estimate(set)))
+}
+
+// The sum of two single tables: its estimate of the goal, and whether it is overdrawn.
+fn sum(one: u8, other: u8) -> Result<(Option<u32>, bool), Fail> {
+    let moves = two_moves()?;
+    let Ok(task) = tasks::check(draft_of(&moves)?) else {
+        return Err(Fail::new("refused"));
+    };
     let mut first = [Estimate::<Minutes>::Never; 3];
     let mut second = [Estimate::<Minutes>::Never; 3];
-    check(work_out_single(&task, 255, &mut all).is_ok())?;
-    check(work_out_single(&task, 1, &mut first).is_ok())?;
-    check(work_out_single(&task, 2, &mut second).is_ok())?;
-    let all = Single::of(&task, 255, &all);
-    let second = Single::of(&task, 2, &second);
-    let split = Sum {
-        one: Single::of(&task, 1, &first),
-        other: second,
+    check(work_out_single(&task, one, &mut first).is_ok())?;
+    check(work_out_single(&task, other, &mut second).is_ok())?;
+    let both = Sum {
+        one: Single::of(&task, one, &first),
+        other: Single::of(&task, other, &second),
     };
-    check_eq(minutes(all.estimate(task.goal())), Some(15))?;
-    check_eq(minutes(split.estimate(task.goal())), Some(19))?;
-    check(split.fits(&task) && !is_overdrawn(&split, &task))?;
-    check(is_overdrawn(
-        &Sum {
-            one: all,
-            other: second,
-        },
-        &task,
+    check(both.fits(&task))?;
+    Ok((
+        minutes(both.estimate(task.goal())),
+        is_overdrawn(&both, &task),
     ))
 }
 
 #[test]
-fn worst_is_not_overdrawn() -> Result<(), Fail> {
+fn estimates_of_the_goal() -> Result<(), Fail> {
+    check_eq(single(255)?, Some(15))?;
+    check_eq(sum(1, 2)?, (Some(19), false))?;
+    check_eq(sum(255, 2)?, (Some(19), true))?;
+    check_eq(pair(set_of(&[1, 2])?)?, Some(19))?;
+    check_eq(pair(set_of(&[3])?)?, None)?;
+    check_eq(pair(FactSet::empty())?, Some(0))
+}
+
+#[test]
+fn sums_in_worst() -> Result<(), Fail> {
     let moves = two_moves()?;
     let Ok(task) = tasks::check(draft_of(&moves)?) else {
         return Err(Fail::new("refused"));
@@ -114,51 +137,42 @@ fn worst_is_not_overdrawn() -> Result<(), Fail> {
     check_eq(highest(both.estimate(task.goal())), Some(15))
 }
 
-#[test]
-fn pairs_in_worst() -> Result<(), Fail> {
+// The pair table's estimate of the goal in worst, with these groups counted.
+fn worst_pair(groups: u8) -> Result<Option<u16>, Fail> {
     let moves = two_moves()?;
     let Ok(task) = tasks::check(draft_of(&moves)?) else {
         return Err(Fail::new("refused"));
     };
-    let mut all = [Estimate::<Worst>::Never; 9];
-    let mut second = [Estimate::<Worst>::Never; 9];
-    check(work_out_pair(&task, 255, &mut all).is_ok())?;
-    check(work_out_pair(&task, 2, &mut second).is_ok())?;
-    check_eq(
-        highest(Pair::of(&task, 255, &all).estimate(task.goal())),
-        Some(15),
-    )?;
-    check_eq(
-        highest(Pair::of(&task, 2, &second).estimate(task.goal())),
-        Some(4),
-    )
+    let mut table = [Estimate::<Worst>::Never; 9];
+    check(work_out_pair(&task, groups, &mut table).is_ok())?;
+    Ok(highest(Pair::of(&task, groups, &table).estimate(task.goal())))
 }
 
 #[test]
-fn pairs_and_a_pile() -> Result<(), Fail> {
+fn pairs_in_worst() -> Result<(), Fail> {
+    check_eq(worst_pair(255)?, Some(15))?;
+    check_eq(worst_pair(2)?, Some(4))
+}
+
+#[test]
+fn a_pile_of_bounds() -> Result<(), Fail> {
     let moves = two_moves()?;
     let Ok(task) = tasks::check(draft_of(&moves)?) else {
         return Err(Fail::new("refused"));
     };
-    let mut pairs = [Estimate::<Minutes>::Never; 9];
-    let mut singles = [Estimate::<Minutes>::Never; 3];
-    check(work_out_pair(&task, 255, &mut pairs).is_ok())?;
-    check(work_out_single(&task, 255, &mut singles).is_ok())?;
-    let pair = Pair::of(&task, 255, &pairs);
-    check_eq(minutes(pair.estimate(task.goal())), Some(19))?;
-    check_eq(minutes(pair.estimate(set_of(&[3])?)), None)?;
-    check_eq(minutes(pair.estimate(FactSet::empty())), Some(0))?;
+    let mut table = [Estimate::<Minutes>::Never; 9];
+    check(work_out_pair(&task, 255, &mut table).is_ok())?;
+    let pair = Pair::of(&task, 255, &table);
     let blind = Blind { of: PhantomData };
-    let single = Single::of(&task, 255, &singles);
     let pile = Higher {
         one: Sum {
             one: blind,
             other: Higher {
-                one: single,
+                one: blind,
                 other: pair,
             },
         },
-        other: single,
+        other: blind,
     };
     check(pile.fits(&task) && !is_overdrawn(&pile, &task))?;
     check_eq(minutes(pile.estimate(task.goal())), Some(19))
@@ -239,32 +253,38 @@ fn tables_that_break_a_rule() -> Result<(), Fail> {
     check(!pairs_fit([a, b, c, d, e, f, g, value(18), i])?)
 }
 
-#[test]
-fn other_tasks_and_short_tables() -> Result<(), Fail> {
+// Whether the single table of the small task fits another one.
+fn fits_other(draft: Draft<'_>) -> Result<bool, Fail> {
     let moves = two_moves()?;
     let Ok(task) = tasks::check(draft_of(&moves)?) else {
         return Err(Fail::new("refused"));
     };
+    let Ok(other) = tasks::check(draft) else {
+        return Err(Fail::new("refused"));
+    };
     let mut table = [Estimate::<Minutes>::Never; 3];
-    check(work_out_single(&task, 255, &mut table[0..2]).is_err())?;
     check(work_out_single(&task, 255, &mut table).is_ok())?;
-    let single = Single::of(&task, 255, &table);
+    Ok(Single::of(&task, 255, &table).fits(&other))
+}
+
+#[test]
+fn other_tasks() -> Result<(), Fail> {
+    let moves = two_moves()?;
     let draft = draft_of(&moves)?;
-    let Ok(wider) = tasks::check(Draft { facts: 4, ..draft }) else {
-        return Err(Fail::new("refused"));
-    };
-    let Ok(later) = tasks::check(Draft {
-        start: FactSet::empty(),
-        ..draft
-    }) else {
-        return Err(Fail::new("refused"));
-    };
-    let Ok(other) = tasks::check(Draft {
-        goal: FactSet::empty(),
-        ..draft
-    }) else {
-        return Err(Fail::new("refused"));
-    };
+    check(fits_other(draft)?)?;
+    check(
+        fits_other(Draft {
+            goal: FactSet::empty(),
+            ..draft
+        })?,
+    )?;
+    check(!fits_other(Draft { facts: 4, ..draft })?)?;
+    check(
+        !fits_other(Draft {
+            start: FactSet::empty(),
+            ..draft
+        })?,
+    )?;
     let dearer = [
         Move {
             price: 16,
@@ -272,13 +292,24 @@ fn other_tasks_and_short_tables() -> Result<(), Fail> {
         },
         moves[1],
     ];
-    let Ok(changed) = tasks::check(draft_of(&dearer)?) else {
+    check(
+        !fits_other(Draft {
+            moves: &dearer,
+            ..draft
+        })?,
+    )
+}
+
+#[test]
+fn short_tables() -> Result<(), Fail> {
+    let moves = two_moves()?;
+    let Ok(task) = tasks::check(draft_of(&moves)?) else {
         return Err(Fail::new("refused"));
     };
-    check(!single.fits(&changed))?;
-    check(!single.fits(&wider) && !single.fits(&later) && single.fits(&other))?;
+    let mut table = [value(0), value(15)];
+    check(work_out_single(&task, 255, &mut table).is_err())?;
     check_eq(
-        minutes(Single::of(&task, 255, &table[0..2]).estimate(task.goal())),
+        minutes(Single::of(&task, 255, &table).estimate(task.goal())),
         None,
     )
 }
