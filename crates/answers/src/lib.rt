@@ -1,4 +1,6 @@
 // What the program prints, as text: each function says which bytes it makes.
+#![tactic(auto)]
+
 mod finding;
 mod moves;
 mod response;

@@ -1,4 +1,6 @@
 // Bounds: estimates of what it costs to reach a set from the start, from which nothing is ever promised too dear.
+#![tactic(auto)]
+
 mod blind;
 mod bound;
 mod higher;

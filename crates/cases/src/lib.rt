@@ -1,4 +1,6 @@
 // Examples of what the other crates do, as tests: a crate of their own, so that the others are proved once.
+#![tactic(auto)]
+
 #[cfg(test)]
 mod bounding;
 #[cfg(test)]

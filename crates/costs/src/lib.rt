@@ -1,4 +1,6 @@
 // Kinds of cost: what a move costs, how costs are joined, and which of two is the less.
+#![tactic(auto)]
+
 mod estimate;
 mod lists;
 mod minutes;

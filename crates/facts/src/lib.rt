@@ -1,4 +1,6 @@
 // Facts and sets of facts.
+#![tactic(auto)]
+
 mod sets;
 
 pub use sets::rising::Rising;

@@ -1,4 +1,6 @@
 // Reads a task file from standard input and prints the answer.
+#![tactic(auto)]
+
 use answers::respond;
 use std::io::Read;
 

@@ -1,4 +1,6 @@
 // A whole queue of calls of a search, with all that it promises.
+#![tactic(auto)]
+
 mod answering;
 mod calls;
 mod whole;

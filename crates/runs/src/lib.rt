@@ -1,4 +1,6 @@
 // A run of the search over a lent table of records, and the way from a record back to the goal.
+#![tactic(auto)]
+
 mod running;
 mod stopping;
 mod telling;

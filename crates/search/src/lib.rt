@@ -1,4 +1,6 @@
 // The search: make, run, read out, close.
+#![tactic(auto)]
+
 mod held;
 mod holding;
 mod search;

@@ -1,4 +1,6 @@
 // Cost tables: what sets of one or two facts cost at least, and the bounds that read them.
+#![tactic(auto)]
+
 mod charges;
 mod origin;
 mod pair;

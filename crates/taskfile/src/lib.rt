@@ -1,4 +1,6 @@
 // Task files: what the bytes say, or why and at which line they say nothing.
+#![tactic(auto)]
+
 mod cuts;
 mod heading;
 mod keys;

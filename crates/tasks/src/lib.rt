@@ -1,4 +1,6 @@
 // Moves, drafts and checked tasks: carrying out, regressing, and what makes a list good.
+#![tactic(auto)]
+
 mod draft;
 mod moves;
 mod refusal;

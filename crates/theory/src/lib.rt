@@ -1,4 +1,6 @@
 // The records and replies of a search, the rules by which it goes (in specs), and what it promises (theorems).
+#![tactic(auto)]
+
 mod record;
 mod refusal;
 mod reply;

@@ -1,4 +1,6 @@
 // Examples of searches, as tests: a crate of their own, so that the others are proved once.
+#![tactic(auto)]
+
 #[cfg(test)]
 mod calling;
 #[cfg(test)]
