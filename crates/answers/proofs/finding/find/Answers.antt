@@ -2,8 +2,8 @@ use Rattle.std.proofs.Common.{rules}
 use Rattle.answers.proofs.finding.find.Goals as goal
 
 -- src/finding.rt:47:14
-pub unreachable-requires-in-default-first : goal.unreachable-requires-in-default-first
-unreachable-requires-in-default-first c = ?
+pub unreachable-requires-in_default-first : goal.unreachable-requires-in_default-first
+unreachable-requires-in_default-first c = ?
 
 -- src/finding.rt:28:1
 pub returns : goal.returns

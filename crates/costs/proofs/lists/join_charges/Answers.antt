@@ -11,10 +11,10 @@ loop-number-init g c = subst (Costs g.V.Tally (moves_of c.args.task.now) _) (sym
 pub loop-number-preserved : goal.loop-number-preserved
 loop-number-preserved g c =
     let moves = moves_of c.args.task.now in
-    let joined : c.join-cost.result ≡ g.V.Tally.join c.loop-number.cost (charge_of g.V.Tally c.in-ok-m.m) =
+    let joined : c.join-cost.result ≡ g.V.Tally.join c.loop-number.cost (charge_of g.V.Tally c.in_ok-m.m) =
     c.join-cost.ensures ∙ ap (g.V.Tally.join c.loop-number.cost) c.charge.ensures in
     subst (λ l. Costs g.V.Tally moves l c.join-cost.result) (sym (take_more c.args.list.now c.loop-number.number-index 0 c.loop-number-test.true))
-    (subst (Costs g.V.Tally moves _) (sym joined) (costs_more g.met.V.Tally.lawful c.loop-number.invariant c.in-ok-m.ensures))
+    (subst (Costs g.V.Tally moves _) (sym joined) (costs_more g.met.V.Tally.lawful c.loop-number.invariant c.in_ok-m.ensures))
 
 pub returns : goal.returns
 returns g c =

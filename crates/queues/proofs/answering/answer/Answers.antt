@@ -14,8 +14,8 @@ returns-in-Err g c = record {
   lent = c.in-Err.ensures.lent;
 }
 
-pub returns-in-Ok-read-front : goal.returns-in-Ok-read-front
-returns-in-Ok-read-front g c = record { replied = read_so _ _ c.in-ReadOut.is c.in-Ok-read-front.ensures; lent = refl }
+pub returns-in-Ok-read_front : goal.returns-in-Ok-read_front
+returns-in-Ok-read_front g c = record { replied = read_so _ _ c.in-ReadOut.is c.in-Ok-read_front.ensures; lent = refl }
 
-pub returns-in-Err-read-front : goal.returns-in-Err-read-front
-returns-in-Err-read-front g c = record { replied = refused_so _ _ c.in-ReadOut.is c.in-Err-read-front.ensures; lent = refl }
+pub returns-in-Err-read_front : goal.returns-in-Err-read_front
+returns-in-Err-read_front g c = record { replied = refused_so _ _ c.in-ReadOut.is c.in-Err-read_front.ensures; lent = refl }

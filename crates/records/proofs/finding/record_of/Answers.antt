@@ -12,11 +12,11 @@ pub loop-number-preserved : goal.loop-number-preserved
 loop-number-preserved g c =
     subst (λ recs. Unrecorded recs c.args.set) (sym (take_next c.read.ensures))
     (unrecorded_more (take c.loop-number.number c.args.table.now) c.read.result c.args.set c.loop-number.invariant
-    (λ e. not_true_false (c.if-is-same.ensures.1 e)))
+    (λ e. not_true_false (c.if-is_same.ensures.1 e)))
 
-pub returns-then-is-same : goal.returns-then-is-same
-returns-then-is-same g c =
-    (c.read.result, record { at = at_take c.args.count c.read.ensures c.loop-number-test.true; same = c.if-is-same.ensures.0 refl })
+pub returns-then-is_same : goal.returns-then-is_same
+returns-then-is_same g c =
+    (c.read.result, record { at = at_take c.args.count c.read.ensures c.loop-number-test.true; same = c.if-is_same.ensures.0 refl })
 
 pub returns : goal.returns
 returns g c =

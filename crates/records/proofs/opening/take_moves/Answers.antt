@@ -11,32 +11,32 @@ use Rattle.records.proofs.opening.take_moves.Goals as goal
 pub loop-number-init : goal.loop-number-init
 loop-number-init g c = none_taken _ _ _ _ _ c.requires.count
 
-pub returns-in-default : goal.returns-in-default
-returns-in-default g c = record {
+pub returns-in_default : goal.returns-in_default
+returns-in_default g c = record {
   grows = c.loop-number.invariant.1;
-  taken = λ checked. all_taken _ _ _ _ _ c.loop-number.invariant (no_more (moves_of c.args.task.now) c.loop-number.number c.in-default.ensures);
+  taken = λ checked. all_taken _ _ _ _ _ c.loop-number.invariant (no_more (moves_of c.args.task.now) c.loop-number.number c.in_default.ensures);
 }
 
-pub loop-number-preserved-in-default-regress : goal.loop-number-preserved-in-default-regress
-loop-number-preserved-in-default-regress g c =
-    one_passed _ _ _ _ _ c.loop-number.invariant c.in-Some.ensures (not_regressing c.in-default-regress.ensures)
+pub loop-number-preserved-in_default-regress : goal.loop-number-preserved-in_default-regress
+loop-number-preserved-in_default-regress g c =
+    one_passed _ _ _ _ _ c.loop-number.invariant c.in-Some.ensures (not_regressing c.in_default-regress.ensures)
 
-pub loop-number-preserved-in-default-estimate : goal.loop-number-preserved-in-default-estimate
-loop-number-preserved-in-default-estimate g c =
-    one_passed _ _ _ _ _ c.loop-number.invariant c.in-Some.ensures (passed_over c.in-Some-regress.ensures (sym c.estimate.ensures ∙ c.in-default-estimate.is))
+pub loop-number-preserved-in_default-estimate : goal.loop-number-preserved-in_default-estimate
+loop-number-preserved-in_default-estimate g c =
+    one_passed _ _ _ _ _ c.loop-number.invariant c.in-Some.ensures (passed_over c.in-Some-regress.ensures (sym c.estimate.ensures ∙ c.in_default-estimate.is))
 
-pub returns-in-err-next : goal.returns-in-err-next
-returns-in-err-next g c =
+pub returns-in_err-next : goal.returns-in_err-next
+returns-in_err-next g c =
     let end =
     no_room _ _ _ _ _ c.loop-number.invariant c.in-Some.ensures c.in-Some-regress.ensures (sym c.estimate.ensures ∙ c.in-Value.is)
-    c.in-err-next.field-0.0 c.requires.room c.child.ensures (λ lead is. c.in-err-next.ensures _ _ _ _ _ _ _ refl lead is) in
+    c.in_err-next.field-0.0 c.requires.room c.child.ensures (λ lead is. c.in_err-next.ensures _ _ _ _ _ _ _ refl lead is) in
     let p = err_from_is_err_and c.from-residual.result c.from-residual.ensures.1 in
     rw (p.1, p.2) (record { grows = end.1; taken = λ checked. end.0 })
 
 pub loop-number-preserved : goal.loop-number-preserved
 loop-number-preserved g c =
     one_led _ _ _ _ _ c.loop-number.invariant c.in-Some.ensures c.in-Some-regress.ensures (sym c.estimate.ensures ∙ c.in-Value.is)
-    c.child.ensures (λ lead is. c.in-ok-next.ensures _ _ _ _ _ _ _ refl lead is)
+    c.child.ensures (λ lead is. c.in_ok-next.ensures _ _ _ _ _ _ _ refl lead is)
 
 pub returns : goal.returns
 returns g c = record {

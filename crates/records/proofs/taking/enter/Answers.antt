@@ -2,10 +2,10 @@ use Rattle.std.proofs.Common.{◌≤◌, length, arith}
 use Rattle.records.proofs.Entering.{recorded_less, taken_add, taken_lower}
 use Rattle.records.proofs.taking.enter.Goals as goal
 
-pub returns-in-default : goal.returns-in-default
-returns-in-default g c P i choice k m t e lent lead is =
+pub returns-in_default : goal.returns-in_default
+returns-in_default g c P i choice k m t e lent lead is =
     taken_add P c.args.table.now c.args.count i choice k m lent c.requires.count c.requires.room lead c.args.new is c.add.new.table
-    c.in-default.ensures c.add.result c.add.ensures
+    c.in_default.ensures c.add.result c.add.ensures
 
 pub lower-requires : goal.lower-requires
 lower-requires g c =

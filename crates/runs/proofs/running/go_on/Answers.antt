@@ -9,13 +9,13 @@ use Rattle.runs.proofs.running.go_on.Goals as goal
 pub loop-first-init : goal.loop-first-init
 loop-first-init g c = (as_it_was c.requires.count, omega arith, λ checked. nothing_yet _ _ _)
 
-pub returns-in-default : goal.returns-in-default
-returns-in-default g c =
+pub returns-in_default : goal.returns-in_default
+returns-in_default g c =
     let inv = c.loop-first.invariant in
-    rw c.ran-out.ensures (record {
+    rw c.ran_out.ensures (record {
       grown = inv.0;
       inside = tt;
-      ran = λ checked known. record { runs = none_left _ _ _ (inv.2 checked) c.in-default.ensures; sane = ∣ tt ∣₁ };
+      ran = λ checked known. record { runs = none_left _ _ _ (inv.2 checked) c.in_default.ensures; sane = ∣ tt ∣₁ };
     })
 
 pub returns-then-arrives : goal.returns-then-arrives
@@ -28,18 +28,18 @@ returns-then-arrives g c =
       grown = inv.0;
       inside = less;
       ran = λ checked known. (let both = plan_found _ _ _ (inv.2 checked) chosen (c.if-arrives.ensures.0 refl)
-          (λ l t h. c.trail-length-length.ensures l t (omega (arith, h, size))) known in record { runs = both.0; sane = both.1 });
+          (λ l t h. c.trail_length-length.ensures l t (omega (arith, h, size))) known in record { runs = both.0; sane = both.1 });
     })
 
-pub returns-then-is-used-up : goal.returns-then-is-used-up
-returns-then-is-used-up g c =
+pub returns-then-is_used_up : goal.returns-then-is_used_up
+returns-then-is_used_up g c =
     let inv = c.loop-first.invariant in
     rw c.paused.ensures (record {
       grown = inv.0;
       inside = tt;
       ran = λ checked known. record {
         runs = grant_used _ _ _ (inv.2 checked) c.in-Some.ensures (is_not c.if-arrives.ensures)
-            (omega (arith, inv.1, leb-true _ _ (sym c.if-is-used-up.ensures)));
+            (omega (arith, inv.1, leb-true _ _ (sym c.if-is_used_up.ensures)));
         sane = (inv.2 checked).threads known;
       };
     })
@@ -65,7 +65,7 @@ returns-in-Err g c =
       grown = grown_on inv.0 full.grows;
       inside = less;
       ran = λ checked known. record {
-        runs = no_room _ _ _ (inv.2 checked) chosen (is_not c.if-arrives.ensures) (leb-false _ _ (sym c.if-is-used-up.ensures))
+        runs = no_room _ _ _ (inv.2 checked) chosen (is_not c.if-arrives.ensures) (leb-false _ _ (sym c.if-is_used_up.ensures))
             (full.opened checked);
         sane = ∣ tt ∣₁;
       };
@@ -76,10 +76,10 @@ loop-first-preserved g c =
     let inv = c.loop-first.invariant in
     let done = c.in-Ok.ensures in (
       grown_on inv.0 done.grows,
-      omega (arith, leb-false _ _ (sym c.if-is-used-up.ensures)),
+      omega (arith, leb-false _ _ (sym c.if-is_used_up.ensures)),
       λ checked. one_opened _ _ _ (inv.2 checked) (record { lawful = g.met.V.Tally.lawful }) c.in-Some.ensures
-          (is_not c.if-arrives.ensures) (done.opened checked) (leb-false _ _ (sym c.if-is-used-up.ensures)),
+          (is_not c.if-arrives.ensures) (done.opened checked) (leb-false _ _ (sym c.if-is_used_up.ensures)),
     )
 
 pub overflow-add-opened : goal.overflow-add-opened
-overflow-add-opened g c = omega (arith, leb-false _ _ (sym c.if-is-used-up.ensures))
+overflow-add-opened g c = omega (arith, leb-false _ _ (sym c.if-is_used_up.ensures))

@@ -8,7 +8,7 @@ pub returns-in-Planned : goal.returns-in-Planned
 returns-in-Planned g c =
     let size = take_length c.args.table.now c.args.count c.requires.count in
     plan_told _ _ c.in-Planned.is (at_take c.args.count c.read.ensures (subst (Inside c.args.count) c.in-Planned.is c.requires.inside))
-    (λ l t h. c.trail-length.ensures l t (omega (arith, h, size)))
+    (λ l t h. c.trail_length.ensures l t (omega (arith, h, size)))
 
 pub returns-in-Exhausted : goal.returns-in-Exhausted
 returns-in-Exhausted g c = none_told _ _ c.in-Exhausted.is c.nil.ensures

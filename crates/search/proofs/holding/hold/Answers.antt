@@ -15,8 +15,8 @@ returns-in-Some g c =
       fit = record { counted = omega arith; fits = omega arith; whole = λ e. impossible (cc c.in-Some.is); inside = tt; traced = λ checked. ∣ no_threads ∣₁ };
       made = record {
         task = refl;
-        honest = is_honest P c.turned-down-kept.ensures;
-        makes = is_refused P c.turned-down-kept.ensures _ _ c.in-Some.is;
+        honest = is_honest P c.turned_down-kept.ensures;
+        makes = is_refused P c.turned_down-kept.ensures _ _ c.in-Some.is;
         rest = untouched;
       };
     }
@@ -24,37 +24,37 @@ returns-in-Some g c =
 pub overflow-cast-room : goal.overflow-cast-room
 overflow-cast-room g c =
     let P = problem_of g.V.Tally g.B.Bound c.args.task c.args.bound.now (length c.args.table.now) in
-    omega (arith, (is_roomy P c.turned-down-kept.ensures c.in-default.is).few)
+    omega (arith, (is_roomy P c.turned_down-kept.ensures c.in_default.is).few)
 
-pub returns-in-default-estimate : goal.returns-in-default-estimate
-returns-in-default-estimate g c =
+pub returns-in_default-estimate : goal.returns-in_default-estimate
+returns-in_default-estimate g c =
     let P = problem_of g.V.Tally g.B.Bound c.args.task c.args.bound.now (length c.args.table.now) in
-    let never = sym (c.estimate.ensures ∙ ap (λ s. g.B.Bound.estimated c.args.bound.now s) c.goal.ensures) ∙ c.in-default-estimate.is in
+    let never = sym (c.estimate.ensures ∙ ap (λ s. g.B.Bound.estimated c.args.bound.now s) c.goal.ensures) ∙ c.in_default-estimate.is in
     record {
       fit = record { counted = omega arith; fits = omega arith; whole = λ e. refl; inside = tt; traced = λ checked. ∣ no_threads ∣₁ };
       made = record {
         task = refl;
-        honest = is_honest P c.turned-down-kept.ensures;
-        makes = is_hopeless P c.turned-down-kept.ensures c.in-default.is never refl;
+        honest = is_honest P c.turned_down-kept.ensures;
+        makes = is_hopeless P c.turned_down-kept.ensures c.in_default.is never refl;
         rest = untouched;
       };
     }
 
-pub write-first-requires : goal.write-first-requires
-write-first-requires g c =
+pub write_first-requires : goal.write_first-requires
+write_first-requires g c =
     let P = problem_of g.V.Tally g.B.Bound c.args.task c.args.bound.now (length c.args.table.now) in
-    (is_roomy P c.turned-down-kept.ensures c.in-default.is).some
+    (is_roomy P c.turned_down-kept.ensures c.in_default.is).some
 
 pub returns : goal.returns
 returns g c =
     let table = c.args.table.now in
     let P = problem_of g.V.Tally g.B.Bound c.args.task c.args.bound.now (length table) in
-    let some : 1 ≤ length table = (is_roomy P c.turned-down-kept.ensures c.in-default.is).some in
+    let some : 1 ≤ length table = (is_roomy P c.turned_down-kept.ensures c.in_default.is).some in
     let hope = sym (c.estimate.ensures ∙ ap (λ s. g.B.Bound.estimated c.args.bound.now s) c.goal.ensures) ∙ c.in-Value.is in
-    let first = c.goal-record.result in
-    let written = c.write-first.ensures in
-    let size : length c.write-first.new.table ≡ length table = ap length written ∙ length-set table 0 first in
-    let recs : take 1 c.write-first.new.table ≡ first ∷ [] = ap (take 1) written ∙ first_place table first some in
+    let first = c.goal_record.result in
+    let written = c.write_first.ensures in
+    let size : length c.write_first.new.table ≡ length table = ap length written ∙ length-set table 0 first in
+    let recs : take 1 c.write_first.new.table ≡ first ∷ [] = ap (take 1) written ∙ first_place table first some in
     record {
       fit = record {
         counted = omega arith;
@@ -65,10 +65,10 @@ returns g c =
       };
       made = record {
         task = refl;
-        honest = is_honest P c.turned-down-kept.ensures;
-        makes = is_waiting P c.turned-down-kept.ensures c.in-default.is hope
-            (recs ∙ ap (λ r. r ∷ []) (c.goal-record.ensures ∙ ap (λ s. record { set = s; spent = g.V.Tally.nil; promise = c.in-Value.promise; parent = 65535; via = 65535; mark = Waiting }) c.goal-2.ensures));
-        rest = past_count {count = 1} _ c.in-default.is (omega (arith, size, some))
+        honest = is_honest P c.turned_down-kept.ensures;
+        makes = is_waiting P c.turned_down-kept.ensures c.in_default.is hope
+            (recs ∙ ap (λ r. r ∷ []) (c.goal_record.ensures ∙ ap (λ s. record { set = s; spent = g.V.Tally.nil; promise = c.in-Value.promise; parent = 65535; via = 65535; mark = Waiting }) c.goal-2.ensures));
+        rest = past_count {count = 1} _ c.in_default.is (omega (arith, size, some))
             (record { size = size; rest = ap (drop 1) written ∙ drop-set-lt 1 table 0 first (omega arith) });
       };
     }

@@ -10,12 +10,12 @@ returns-then-not-fits g c = record {
   tells = λ checked P e. misfit (sym c.if-not-fits.ensures.told);
 }
 
-pub returns-then-is-overdrawn : goal.returns-then-is-overdrawn
-returns-then-is-overdrawn g c = record {
+pub returns-then-is_overdrawn : goal.returns-then-is_overdrawn
+returns-then-is_overdrawn g c = record {
   sound = λ fits. c.if-not-fits.ensures.sound tt;
   tells = λ checked P e.
       overdrawn (sym c.if-not-fits.ensures.told)
-      (subst (λ t. Overdrawn g.V.Tally t (g.B.Bound.shared c.args.bound.now)) (sym e) ((c.if-is-overdrawn.ensures checked).0 refl));
+      (subst (λ t. Overdrawn g.V.Tally t (g.B.Bound.shared c.args.bound.now)) (sym e) ((c.if-is_overdrawn.ensures checked).0 refl));
 }
 
 pub returns : goal.returns
@@ -23,7 +23,7 @@ returns g c = record {
   sound = λ fits. c.if-not-fits.ensures.sound tt;
   tells = λ checked P e. record {
     fitting = sym c.if-not-fits.ensures.told;
-    drawn = λ over. not_true_false ((c.if-is-overdrawn.ensures checked).1
+    drawn = λ over. not_true_false ((c.if-is_overdrawn.ensures checked).1
         (subst (λ t. Overdrawn g.V.Tally t (g.B.Bound.shared c.args.bound.now)) e over));
   };
 }

@@ -10,7 +10,7 @@ returns-then-number-moves g c =
     let moves = c.args.moves.now in
     let n = c.from-number.result in
     let m = get_or moves n no_move in
-    c.counted-charge.ensures
+    c.counted_charge.ensures
     ∙ sym (share_at_move g.V.Tally c.args.groups moves c.args.number m (subst (λ k. At moves k m) c.from-number.ensures (at_get moves n no_move c.if-number-moves.true)))
 
 pub returns-else-number-moves : goal.returns-else-number-moves

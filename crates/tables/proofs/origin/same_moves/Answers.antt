@@ -9,7 +9,7 @@ loop-number-preserved c =
     let other = c.args.other.now in
     let i = c.loop-number.number in
     let inside : i < length other = omega (arith, c.if-one-other.false, c.loop-number-test.true) in
-    let same = c.if-not-same-move.ensures.0 refl in
+    let same = c.if-not-same_move.ensures.0 refl in
     take_more one i no_move c.loop-number-test.true ∙ ap (λ l. l ++ (get_or one i no_move ∷ [])) c.loop-number.invariant ∙ ap (λ x. take i other ++ (x ∷ [])) same ∙ sym (take_more other i no_move inside)
 
 pub returns : goal.returns

@@ -16,7 +16,7 @@ loop-p-init g c =
       (λ f h. h),
       top_one (laws_of g.V.Tally g.met.V.Tally.lawful) (r, r) (inl (refl, inl refl))
           (λ k h. ⊎_elim (λ a. ⊎_elim (λ e. same_two k r r a.0 e) (λ gone. absurd (gone.1 gone.0)) a.1) (λ a. absurd (a.1.1 a.1.0)) h)
-          c.pair-place-top.ensures,
+          c.pair_place-top.ensures,
     )
 
 pub loop-p-preserved : goal.loop-p-preserved
@@ -37,10 +37,10 @@ loop-p-preserved g c =
     let New : Two → Type 0 = Around r (Gone all after) in
     let One : Two → Type 0 = λ k. k ≡ (x, r) in
     let Other : Two → Type 0 = λ k. k ≡ (r, x) in
-    let first = top_join laws {val = val} {P = Old} {Q = One} {R = λ k. Old k ⊎ One k} c.loop-p.invariant.1 (top_one laws {val = val} (x, r) refl (λ l e. e) c.pair-place.ensures) c.higher-top.ensures
+    let first = top_join laws {val = val} {P = Old} {Q = One} {R = λ k. Old k ⊎ One k} c.loop-p.invariant.1 (top_one laws {val = val} (x, r) refl (λ l e. e) c.pair_place.ensures) c.higher-top.ensures
     (λ k h. h) (λ k h. inl h) (λ k h. inr h) in (
       next_within all left after x within next,
-      top_join laws {val = val} {P = λ k. Old k ⊎ One k} {Q = Other} {R = New} first (top_one laws {val = val} (r, x) refl (λ l e. e) c.pair-place-in-loop-p.ensures) c.higher-top-in-loop-p.ensures
+      top_join laws {val = val} {P = λ k. Old k ⊎ One k} {Q = Other} {R = New} first (top_one laws {val = val} (r, x) refl (λ l e. e) c.pair_place-in-loop-p.ensures) c.higher-top-in-loop-p.ensures
           (λ k h. ⊎_elim
           (λ a. ⊎_elim (λ e. inl (inl (inl (a.0, inl e)))) (λ gone. ⊎_elim (λ old. inl (inl (inl (a.0, inr old)))) (λ e. inr (same_two k r x a.0 e)) (more k.1 gone)) a.1)
           (λ a. ⊎_elim (λ old. inl (inl (inr (a.0, old)))) (λ e. inl (inr (same_two k x r e a.0))) (more k.0 a.1)) h)

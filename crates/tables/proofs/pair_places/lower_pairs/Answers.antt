@@ -36,11 +36,11 @@ loop-p-preserved g c =
     let One : Two → Type 0 = λ k. (k.0 < facts) × (k.1 < facts) × (k ≡ (x, r)) in
     let Other : Two → Type 0 = λ k. (k.0 < facts) × (k.1 < facts) × (k ≡ (r, x)) in
     let start = place_of_pair facts c.args.table.now in
-    let mid = place_of_pair facts c.lower-pair.new.table in
-    let end = place_of_pair facts c.lower-pair-in-loop-p.new.table in
-    let first = lowers_then laws {Head = Old} {More = One} {Then = λ k. Old k ⊎ One k} {old = start} {new = mid} c.loop-p.invariant.1 c.lower-pair.ensures.lowers (λ k h. h) (λ k h. inl h) (λ k h. inr h) in (
+    let mid = place_of_pair facts c.lower_pair.new.table in
+    let end = place_of_pair facts c.lower_pair-in-loop-p.new.table in
+    let first = lowers_then laws {Head = Old} {More = One} {Then = λ k. Old k ⊎ One k} {old = start} {new = mid} c.loop-p.invariant.1 c.lower_pair.ensures.lowers (λ k h. h) (λ k h. inl h) (λ k h. inr h) in (
       next_within all left after x within next,
-      lowers_then laws {Head = λ k. Old k ⊎ One k} {More = Other} {Then = New} {old = start} {mid = mid} {new = end} first c.lower-pair-in-loop-p.ensures.lowers
+      lowers_then laws {Head = λ k. Old k ⊎ One k} {More = Other} {Then = New} {old = start} {mid = mid} {new = end} first c.lower_pair-in-loop-p.ensures.lowers
           (λ k h. ⊎_elim
           (λ a. ⊎_elim (λ old. inl (inl (h.0, h.1, inl (a.0, old)))) (λ e. inl (inr (h.0, h.1, same_two k x r e a.0))) (more k.0 a.1))
           (λ a. ⊎_elim (λ old. inl (inl (h.0, h.1, inr (a.0, old)))) (λ e. inr (h.0, h.1, same_two k r x a.0 e)) (more k.1 a.1)) h.2)
@@ -48,7 +48,7 @@ loop-p-preserved g c =
           (λ old. (old.0, old.1, ⊎_elim (λ a. inl (a.0, still k.0 a.1)) (λ a. inr (a.0, still k.1 a.1)) old.2))
           (λ e. (e.0, e.1, inl (ap (λ y. y.1) e.2, now_gone k.0 (ap (λ y. y.0) e.2)))) h)
           (λ k e. (e.0, e.1, inr (ap (λ y. y.0) e.2, now_gone k.1 (ap (λ y. y.1) e.2)))),
-      λ k h. c.lower-pair-in-loop-p.ensures.past k h ∙ c.lower-pair.ensures.past k h ∙ c.loop-p.invariant.2 k h,
+      λ k h. c.lower_pair-in-loop-p.ensures.past k h ∙ c.lower_pair.ensures.past k h ∙ c.loop-p.invariant.2 k h,
     )
 
 pub returns : goal.returns

@@ -6,4 +6,4 @@ use Rattle.tables.proofs.pair_places.pair_estimate.Goals as goal
 pub returns : goal.returns
 returns g c =
     let laws = laws_of g.V.Tally g.met.V.Tally.lawful in
-    top_sole laws c.highest-pair.ensures (pairs_top laws (place_of_pair c.args.facts c.args.table.now) c.args.set)
+    top_sole laws c.highest_pair.ensures (pairs_top laws (place_of_pair c.args.facts c.args.table.now) c.args.set)

@@ -8,15 +8,15 @@ use Rattle.tables.proofs.Decisions.{fails_at, holds_more}
 use Rattle.tables.proofs.Subsets.{next_within, next_here, gone_all}
 use Rattle.tables.proofs.pair_rules.column_within.Goals as goal
 
-pub returns-then-not-at-most : goal.returns-then-not-at-most
-returns-then-not-at-most g c =
+pub returns-then-not-at_most : goal.returns-then-not-at_most
+returns-then-not-at_most g c =
     let all = c.into-iter-p-iterator.result.left in
     let left = c.loop-p.p-iterator.left in
     let after = c.next.new.self.left in
     let x = c.in-Some.p in
     let is = ap (λ y. y.left) c.into-iter-p-iterator.ensures.into-iter-gives ∙ c.iter-p-items.ensures in
-    let told = c.at-most.ensures ∙ ap (λ e. not_above g.V.Tally.at_most e c.args.limit) c.pair-place.ensures in
-    fails_at c.args.set x (subst (λ s. T (has s x)) is (next_here all left after x c.loop-p.invariant.0 c.in-Some.ensures.steps)) (λ h. not_both h (sym told ∙ c.if-not-at-most.true))
+    let told = c.at_most.ensures ∙ ap (λ e. not_above g.V.Tally.at_most e c.args.limit) c.pair_place.ensures in
+    fails_at c.args.set x (subst (λ s. T (has s x)) is (next_here all left after x c.loop-p.invariant.0 c.in-Some.ensures.steps)) (λ h. not_both h (sym told ∙ c.if-not-at_most.true))
 
 pub loop-p-preserved : goal.loop-p-preserved
 loop-p-preserved g c =
@@ -24,10 +24,10 @@ loop-p-preserved g c =
     let left = c.loop-p.p-iterator.left in
     let after = c.next.new.self.left in
     let x = c.in-Some.p in
-    let told = c.at-most.ensures ∙ ap (λ e. not_above g.V.Tally.at_most e c.args.limit) c.pair-place.ensures in (
+    let told = c.at_most.ensures ∙ ap (λ e. not_above g.V.Tally.at_most e c.args.limit) c.pair_place.ensures in (
       next_within all left after x c.loop-p.invariant.0 c.in-Some.ensures.steps,
       holds_more {P = λ p. NotAbove g.V.Tally (place_of_pair c.args.facts c.args.table.now (p, c.args.r)) c.args.limit} all left after x c.loop-p.invariant.0 c.in-Some.ensures.steps c.loop-p.invariant.1
-          (from_true (sym told ∙ c.if-not-at-most.false)),
+          (from_true (sym told ∙ c.if-not-at_most.false)),
     )
 
 pub returns : goal.returns

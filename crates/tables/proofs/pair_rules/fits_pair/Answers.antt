@@ -6,35 +6,35 @@ use Rattle.tables.proofs.Cells.{pair_outside}
 use Rattle.tables.proofs.Order.{laws_of}
 use Rattle.tables.proofs.pair_rules.fits_pair.Goals as goal
 
-pub returns-then-is-of : goal.returns-then-is-of
-returns-then-is-of g c =
+pub returns-then-is_of : goal.returns-then-is_of
+returns-then-is_of g c =
     let laws = laws_of g.V.Tally g.met.V.Tally.lawful in
     let b = setting_in c.args.origin.now in
     let val = place_of_pair b.facts c.args.table.now in
     let out = pair_outside b.facts c.args.table.now in
     let t = c.args.task.now in
-    let same = c.is-of.result in
-    let keeps = c.keeps-pair-rules.result in
-    let is : keeps ≡ (same && keeps) = sym (ap (λ x. x && keeps) c.if-is-of.true) in
-    let e = c.keeps-pair-rules.ensures in
+    let same = c.is_of.result in
+    let keeps = c.keeps_pair_rules.result in
+    let is : keeps ≡ (same && keeps) = sym (ap (λ x. x && keeps) c.if-is_of.true) in
+    let e = c.keeps_pair_rules.ensures in
     record {
-      told = pair_told laws b val out t same keeps keeps is c.is-of.ensures e;
-      sound = pair_sound laws b val out t same keeps keeps is c.is-of.ensures e;
-      exact = pair_exact laws b val out t same keeps keeps is c.is-of.ensures e;
+      told = pair_told laws b val out t same keeps keeps is c.is_of.ensures e;
+      sound = pair_sound laws b val out t same keeps keeps is c.is_of.ensures e;
+      exact = pair_exact laws b val out t same keeps keeps is c.is_of.ensures e;
     }
 
-pub returns-else-is-of : goal.returns-else-is-of
-returns-else-is-of g c =
+pub returns-else-is_of : goal.returns-else-is_of
+returns-else-is_of g c =
     let laws = laws_of g.V.Tally g.met.V.Tally.lawful in
     let b = setting_in c.args.origin.now in
     let val = place_of_pair b.facts c.args.table.now in
     let out = pair_outside b.facts c.args.table.now in
     let t = c.args.task.now in
-    let same = c.is-of.result in
+    let same = c.is_of.result in
     let keeps = keeps_pair g.V.Tally b val in
-    let is : same ≡ (same && keeps) = c.if-is-of.false ∙ sym (ap (λ x. x && keeps) c.if-is-of.false) in
+    let is : same ≡ (same && keeps) = c.if-is_of.false ∙ sym (ap (λ x. x && keeps) c.if-is_of.false) in
     record {
-      told = pair_told laws b val out t same keeps same is c.is-of.ensures (pair_tells laws b val out);
-      sound = pair_sound laws b val out t same keeps same is c.is-of.ensures (pair_tells laws b val out);
-      exact = pair_exact laws b val out t same keeps same is c.is-of.ensures (pair_tells laws b val out);
+      told = pair_told laws b val out t same keeps same is c.is_of.ensures (pair_tells laws b val out);
+      sound = pair_sound laws b val out t same keeps same is c.is_of.ensures (pair_tells laws b val out);
+      exact = pair_exact laws b val out t same keeps same is c.is_of.ensures (pair_tells laws b val out);
     }

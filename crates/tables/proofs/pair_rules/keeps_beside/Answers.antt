@@ -21,8 +21,8 @@ returns g c =
     let r = c.args.r in
     let val = place_of_pair b.facts c.args.table.now in
     let heads = c.without.result in
-    let est_is = top_sole laws c.with-beside.ensures (besides_top laws val m r) in
+    let est_is = top_sole laws c.with_beside.ensures (besides_top laws val m r) in
     let is : c.join-offer.result ≡ offer_of tally b m (besides_estimate tally val m r) =
-    c.join-offer.ensures ∙ ap (λ x. join_each tally.join (Value x) c.with-beside.result) c.counted-charge.ensures ∙ ap (λ x. offer_of tally b m x) est_is in
-    let told = subst (λ e. Decides c.column-within.result ((p : ℕ) → T (has heads p) → NotAbove tally (val (p, r)) e)) is c.column-within.ensures in
+    c.join-offer.ensures ∙ ap (λ x. join_each tally.join (Value x) c.with_beside.result) c.counted_charge.ensures ∙ ap (λ x. offer_of tally b m x) est_is in
+    let told = subst (λ e. Decides c.column_within.result ((p : ℕ) → T (has heads p) → NotAbove tally (val (p, r)) e)) is c.column_within.ensures in
     decides_like (λ h p made whole. h p (heads_in m heads c.without.ensures p (made, whole))) (λ h p i. let head = heads_from m heads c.without.ensures p i in h p head.0 head.1) told

@@ -12,8 +12,8 @@ loop-number-preserved g c =
     let start = c.args.start in
     let facts = c.args.facts in
     let k = c.loop-number.number in
-    let row : c.has.result ≡ has start (k / facts) = c.has.ensures ∙ ap (λ x. has start x.0) c.facts-of-p.ensures in
-    let column : c.has-in-loop-number.result ≡ has start (k % facts) = c.has-in-loop-number.ensures ∙ ap (λ x. has start x.1) c.facts-of-p.ensures in
+    let row : c.has.result ≡ has start (k / facts) = c.has.ensures ∙ ap (λ x. has start x.0) c.facts_of-p.ensures in
+    let column : c.has-in-loop-number.result ≡ has start (k % facts) = c.has-in-loop-number.ensures ∙ ap (λ x. has start x.1) c.facts_of-p.ensures in
     let both = ap (λ x. x && c.has-in-loop-number.result) row ∙ ap (λ x. has start (k / facts) && x) column in
     let to : ℕ → Estimate g.row.V.Denot = λ i. cond (has start (i / facts) && has start (i % facts)) (Value g.V.Tally.nil) Never in
     upto_write Never to c.args.table.now k c.loop-number.table c.if-has.table

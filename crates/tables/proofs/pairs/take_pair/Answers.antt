@@ -32,8 +32,8 @@ module _ (all others : FactSet) (m : Move) (settled : Option Two) (facts : ℕ) 
   concerned x l unb t = subst T (sym (is x)) (and_both (has all x && not (has m.breaks x)) (touches_both settled (besides m x))
       (and_both (has all x) (not (has m.breaks x)) (from_true (whole x ∙ lt-ltb x facts l)) (not_of (has m.breaks x) unb)) t)
 
-pub returns-then-is-within : goal.returns-then-is-within
-returns-then-is-within g c =
+pub returns-then-is_within : goal.returns-then-is_within
+returns-then-is_within g c =
     let laws = laws_of g.V.Tally g.met.V.Tally.lawful in
     let b = setting_of c.args.task.now c.args.groups in
     let i = c.args.number in
@@ -41,7 +41,7 @@ returns-then-is-within g c =
     let at : At b.moves i m = subst (λ l. At l i m) c.moves.ensures (at_get c.moves.result.now i no_move (omega (arith, ap length c.moves.ensures, c.requires.one))) in
     let others = c.concerned-others.result in
     let val = place_of_pair b.facts c.args.table.now in
-    let empty : (x : ℕ) → T (has others x) → ⊥ = λ x h. not_both (c.if-is-within.ensures.0 refl x h) (c.empty.ensures x) in
+    let empty : (x : ℕ) → T (has others x) → ⊥ = λ x h. not_both (c.if-is_within.ensures.0 refl x h) (c.empty.ensures x) in
     let Taken : ℕ → Type 0 = λ x. T (has others x) in
     let all = with_last laws b c.args.settled i m at val Taken (concerned c.args.all others m c.args.settled b.facts c.requires.whole c.concerned-others.ensures) in
     let none = with_first laws b c.args.settled i m at val Taken empty in
@@ -57,7 +57,7 @@ returns-in-Never g c =
     let at : At b.moves i m = subst (λ l. At l i m) c.moves.ensures (at_get c.moves.result.now i no_move (omega (arith, ap length c.moves.ensures, c.requires.one))) in
     let old = c.args.table.now in
     let Needs : Two → Type 0 = λ k. T (has m.needs k.0) × T (has m.needs k.1) in
-    let est_is = top_sole laws (subst (λ f. Top tally Needs (place_of_pair f old) c.highest-pair-base.result) c.facts-facts.ensures c.highest-pair-base.ensures) (pairs_top laws (place_of_pair b.facts old) m.needs) in
+    let est_is = top_sole laws (subst (λ f. Top tally Needs (place_of_pair f old) c.highest_pair-base.result) c.facts-facts.ensures c.highest_pair-base.ensures) (pairs_top laws (place_of_pair b.facts old) m.needs) in
     record { turn = with_never laws b c.args.settled i m at (place_of_pair b.facts old) (sym est_is ∙ c.in-Never.is); past = λ k h. refl }
 
 pub loop-r-init : goal.loop-r-init
@@ -69,13 +69,13 @@ loop-r-init g c =
     let at : At b.moves i m = subst (λ l. At l i m) c.moves.ensures (at_get c.moves.result.now i no_move (omega (arith, ap length c.moves.ensures, c.requires.one))) in
     let all = c.into-iter-r-iterator.result.left in (
       (λ f h. h),
-      c.highest-pair-base.ensures,
+      c.highest_pair-base.ensures,
       (λ settled touched. with_first laws b settled i m at (place_of_pair b.facts c.args.table.now) (Gone all all) (λ x gone. gone.1 gone.0)),
       λ k h. refl,
     )
 
-pub with-beside-requires : goal.with-beside-requires
-with-beside-requires g c = c.loop-r.invariant.1
+pub with_beside-requires : goal.with_beside-requires
+with_beside-requires g c = c.loop-r.invariant.1
 
 pub loop-r-preserved : goal.loop-r-preserved
 loop-r-preserved g c =
@@ -87,7 +87,7 @@ loop-r-preserved g c =
     let at : At b.moves i m = subst (λ l. At l i m) c.moves.ensures (at_get c.moves.result.now i no_move (omega (arith, ap length c.moves.ensures, c.requires.one))) in
     let same = c.facts-facts.ensures in
     let old = c.loop-r.table in
-    let new = c.lower-pairs.new.table in
+    let new = c.lower_pairs.new.table in
     let val = place_of_pair b.facts old in
     let to = place_of_pair b.facts new in
     let all = c.into-iter-r-iterator.result.left in
@@ -102,20 +102,20 @@ loop-r-preserved g c =
     let whole = unbroken c.args.all others m c.args.settled b.facts c.requires.whole c.concerned-others.ensures r here in
     let heads = c.without-heads.result in
     let offer = c.join-offer.result in
-    let est_is : c.with-beside.result ≡ estimate_by_pairs tally val (target m r) =
-    top_sole laws (subst (λ f. Top tally (λ k. T (besides m r k.0) × T (besides m r k.1)) (place_of_pair f old) c.with-beside.result) same c.with-beside.ensures)
+    let est_is : c.with_beside.result ≡ estimate_by_pairs tally val (target m r) =
+    top_sole laws (subst (λ f. Top tally (λ k. T (besides m r k.0) × T (besides m r k.1)) (place_of_pair f old) c.with_beside.result) same c.with_beside.ensures)
     (top_like laws (λ k h. (subst T (has_target m r k.0) h.0, subst T (has_target m r k.1) h.1)) (λ k h. (subst T (sym (has_target m r k.0)) h.0, subst T (sym (has_target m r k.1)) h.1))
     (pairs_top laws val (target m r))) in
     let is : offer ≡ offer_of tally b m (estimate_by_pairs tally val (target m r)) =
-    c.join-offer.ensures ∙ ap (λ x. join_each tally.join (Value x) c.with-beside.result) c.counted-charge.ensures ∙ ap (λ x. offer_of tally b m x) est_is in
-    let low = subst (λ f. Lowers tally (Beside f heads r) offer (place_of_pair f old) (place_of_pair f new)) same c.lower-pairs.ensures.lowers in
+    c.join-offer.ensures ∙ ap (λ x. join_each tally.join (Value x) c.with_beside.result) c.counted_charge.ensures ∙ ap (λ x. offer_of tally b m x) est_is in
+    let low = subst (λ f. Lowers tally (Beside f heads r) offer (place_of_pair f old) (place_of_pair f new)) same c.lower_pairs.ensures.lowers in
     let own_touched = touched c.args.all others m c.args.settled b.facts c.requires.whole c.concerned-others.ensures r here in
-    let past = subst (λ f. SamePast (f * f) old new) same c.lower-pairs.ensures.past in
+    let past = subst (λ f. SamePast (f * f) old new) same c.lower_pairs.ensures.past in
     let kept = needs_kept laws b c.args.settled i m at r whole own_touched heads c.without-heads.ensures val to offer is low in
     let Needs : Two → Type 0 = λ k. T (has m.needs k.0) × T (has m.needs k.1) in
-    let base_was : c.highest-pair-base.result ≡ estimate_by_pairs tally val m.needs = top_sole laws (subst (λ f. Top tally Needs (place_of_pair f old) c.highest-pair-base.result) same c.loop-r.invariant.1) (pairs_top laws val m.needs) in (
+    let base_was : c.highest_pair-base.result ≡ estimate_by_pairs tally val m.needs = top_sole laws (subst (λ f. Top tally Needs (place_of_pair f old) c.highest_pair-base.result) same c.loop-r.invariant.1) (pairs_top laws val m.needs) in (
       next_within all left after r within next,
-      subst (λ f. Top tally Needs (place_of_pair f new) c.highest-pair-base.result) (sym same) (subst (Top tally Needs to) (sym (base_was ∙ sym kept)) (pairs_top laws to m.needs)),
+      subst (λ f. Top tally Needs (place_of_pair f new) c.highest_pair-base.result) (sym same) (subst (Top tally Needs to) (sym (base_was ∙ sym kept)) (pairs_top laws to m.needs)),
       (λ settled now-touched. let one = with_lowers laws b settled i m at r whole (now-touched r (next_here all left after r within next)) heads c.without-heads.ensures val to offer is low (Gone all left) (Gone all after) (gone_more all left after r within next) in
           record { runs = λ done floor s. one.runs done floor ((c.loop-r.invariant.2 settled now-touched).runs done floor s) }),
       λ k h. past k h ∙ c.loop-r.invariant.3 k h,

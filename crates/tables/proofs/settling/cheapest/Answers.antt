@@ -6,7 +6,7 @@ use Rattle.bounds.specs.Sound.{NotAbove}
 use Rattle.tables.proofs.Cells.{Lowest, Choice, lowest_takes, lowest_keeps, lowest_passes}
 use Rattle.tables.proofs.Order.{laws_of, antisymmetric, top}
 use Rattle.tables.proofs.settling.cheapest.Goals as goal
-use Rattle.tables.proofs.settling.cheapest.Goals.{then-not-done-k+then-not-at-most, else-not-done-k, else-not-done-k-via-then-not-done-k+else-not-at-most, else-not-done-k-via-else-not-done-k}
+use Rattle.tables.proofs.settling.cheapest.Goals.{then-not-done-k+then-not-at_most, else-not-done-k, else-not-done-k-via-then-not-done-k+else-not-at_most, else-not-done-k-via-else-not-done-k}
 
 pub loop-k-preserved : goal.loop-k-preserved
 loop-k-preserved g c =
@@ -16,16 +16,16 @@ loop-k-preserved g c =
     let k = c.loop-k.k in
     let inside : k < length table = omega arith in
     elim c.if-not-done-k.branch [
-      | then-not-done-k+then-not-at-most w ↦
+      | then-not-done-k+then-not-at_most w ↦
           let read = get_or_read table k w.index-table-k.result inside w.index-table-k.is Never in
-          let again = get_or_read table k w.index-table-k-then-not-at-most.result inside w.index-table-k-then-not-at-most.is Never in (
-            subst (λ x. Lowest laws done table (k + 1) x) (sym (w.best-is ∙ again ∙ sym read)) (lowest_takes laws done table k c.loop-k.best w.index-table-k.result c.loop-k.invariant.0 (sym w.if-not-at-most.ensures) read),
+          let again = get_or_read table k w.index-table-k-then-not-at_most.result inside w.index-table-k-then-not-at_most.is Never in (
+            subst (λ x. Lowest laws done table (k + 1) x) (sym (w.best-is ∙ again ∙ sym read)) (lowest_takes laws done table k c.loop-k.best w.index-table-k.result c.loop-k.invariant.0 (sym w.if-not-at_most.ensures) read),
             inr (omega (arith, w.chosen-is), ap (λ x. get_or done x false) w.chosen-is ∙ w.if-not-done-k.true, w.best-is ∙ again ∙ ap (λ x. get_or table x Never) (sym w.chosen-is)),
           )
       | else-not-done-k w ↦
           let low : Lowest laws done table (k + 1) c.loop-k.best = elim w.else-not-done-k.branch [
-            | else-not-done-k-via-then-not-done-k+else-not-at-most w' ↦
-                lowest_keeps laws done table k c.loop-k.best w'.index-table-k.result c.loop-k.invariant.0 (sym w'.if-not-at-most.ensures) (get_or_read table k w'.index-table-k.result inside w'.index-table-k.is Never)
+            | else-not-done-k-via-then-not-done-k+else-not-at_most w' ↦
+                lowest_keeps laws done table k c.loop-k.best w'.index-table-k.result c.loop-k.invariant.0 (sym w'.if-not-at_most.ensures) (get_or_read table k w'.index-table-k.result inside w'.index-table-k.is Never)
             | else-not-done-k-via-else-not-done-k w' ↦ lowest_passes laws done table k c.loop-k.best c.loop-k.invariant.0 (λ e. both_ways _ e w'.if-not-done-k.false)
           ] in
           subst (λ x. Choice laws done table c.args.count (k + 1) x c.if-not-done-k.chosen) (sym w.best-is)

@@ -18,11 +18,11 @@ loop-fact-preserved g c =
     let within = c.loop-fact.invariant.0 in
     let next = c.in-Some.ensures.steps in (
       next_within all left after x within next,
-      lowers_then laws c.loop-fact.invariant.1 c.lower-single.ensures.lowers
+      lowers_then laws c.loop-fact.invariant.1 c.lower_single.ensures.lowers
           (λ k p. ⊎_elim (λ h. inl (p.0, h)) (λ e. inr (p.0, e)) (gone_more all left after x within next k p.1))
           (λ k p. (p.0, gone_still all left after x within next k p.1))
           (λ k p. (p.0, subst (Gone all after) (sym p.1) (gone_now all left after x within next))),
-      λ k h. c.lower-single.ensures.past k h ∙ c.loop-fact.invariant.2 k h,
+      λ k h. c.lower_single.ensures.past k h ∙ c.loop-fact.invariant.2 k h,
     )
 
 pub returns : goal.returns

@@ -6,4 +6,4 @@ use Rattle.tables.proofs.single_places.single_estimate.Goals as goal
 pub returns : goal.returns
 returns g c =
     let laws = laws_of g.V.Tally g.met.V.Tally.lawful in
-    top_sole laws c.highest-single.ensures (singles_top laws (place_of_single c.args.facts c.args.table.now) c.args.set)
+    top_sole laws c.highest_single.ensures (singles_top laws (place_of_single c.args.facts c.args.table.now) c.args.set)

@@ -5,33 +5,33 @@ use Rattle.tables.proofs.Keeping.{single_tells, single_told, single_exact, singl
 use Rattle.tables.proofs.Order.{laws_of}
 use Rattle.tables.proofs.single_rules.fits_single.Goals as goal
 
-pub returns-then-is-of : goal.returns-then-is-of
-returns-then-is-of g c =
+pub returns-then-is_of : goal.returns-then-is_of
+returns-then-is_of g c =
     let laws = laws_of g.V.Tally g.met.V.Tally.lawful in
     let b = setting_in c.args.origin.now in
     let val = place_of_single b.facts c.args.table.now in
     let t = c.args.task.now in
-    let same = c.is-of.result in
-    let keeps = c.keeps-single-rules.result in
-    let is : keeps ≡ (same && keeps) = sym (ap (λ x. x && keeps) c.if-is-of.true) in
-    let e = c.keeps-single-rules.ensures in
+    let same = c.is_of.result in
+    let keeps = c.keeps_single_rules.result in
+    let is : keeps ≡ (same && keeps) = sym (ap (λ x. x && keeps) c.if-is_of.true) in
+    let e = c.keeps_single_rules.ensures in
     record {
-      told = single_told laws b val t same keeps keeps is c.is-of.ensures e;
-      sound = single_sound laws b val t same keeps keeps is c.is-of.ensures e;
-      exact = single_exact laws b val t same keeps keeps is c.is-of.ensures e;
+      told = single_told laws b val t same keeps keeps is c.is_of.ensures e;
+      sound = single_sound laws b val t same keeps keeps is c.is_of.ensures e;
+      exact = single_exact laws b val t same keeps keeps is c.is_of.ensures e;
     }
 
-pub returns-else-is-of : goal.returns-else-is-of
-returns-else-is-of g c =
+pub returns-else-is_of : goal.returns-else-is_of
+returns-else-is_of g c =
     let laws = laws_of g.V.Tally g.met.V.Tally.lawful in
     let b = setting_in c.args.origin.now in
     let val = place_of_single b.facts c.args.table.now in
     let t = c.args.task.now in
-    let same = c.is-of.result in
+    let same = c.is_of.result in
     let keeps = keeps_single g.V.Tally b val in
-    let is : same ≡ (same && keeps) = c.if-is-of.false ∙ sym (ap (λ x. x && keeps) c.if-is-of.false) in
+    let is : same ≡ (same && keeps) = c.if-is_of.false ∙ sym (ap (λ x. x && keeps) c.if-is_of.false) in
     record {
-      told = single_told laws b val t same keeps same is c.is-of.ensures (single_tells laws b val);
-      sound = single_sound laws b val t same keeps same is c.is-of.ensures (single_tells laws b val);
-      exact = single_exact laws b val t same keeps same is c.is-of.ensures (single_tells laws b val);
+      told = single_told laws b val t same keeps same is c.is_of.ensures (single_tells laws b val);
+      sound = single_sound laws b val t same keeps same is c.is_of.ensures (single_tells laws b val);
+      exact = single_exact laws b val t same keeps same is c.is_of.ensures (single_tells laws b val);
     }

@@ -17,8 +17,8 @@ returns g c =
     let m = c.args.m.now in
     let val = place_of_single b.facts c.args.table.now in
     let heads = c.without.result in
-    let est_is = c.single-estimate.ensures in
+    let est_is = c.single_estimate.ensures in
     let is : c.join-offer.result ≡ offer_of tally b m (estimate_by_singles tally val m.needs) =
-    c.join-offer.ensures ∙ ap (λ x. join_each tally.join (Value x) c.single-estimate.result) c.counted-charge.ensures ∙ ap (λ x. offer_of tally b m x) est_is in
-    let told = subst (λ e. Decides c.singles-within.result ((p : ℕ) → T (has heads p) → NotAbove tally (val p) e)) is c.singles-within.ensures in
+    c.join-offer.ensures ∙ ap (λ x. join_each tally.join (Value x) c.single_estimate.result) c.counted_charge.ensures ∙ ap (λ x. offer_of tally b m x) est_is in
+    let told = subst (λ e. Decides c.singles_within.result ((p : ℕ) → T (has heads p) → NotAbove tally (val p) e)) is c.singles_within.ensures in
     decides_like (λ h p made whole. h p (heads_in m heads c.without.ensures p (made, whole))) (λ h p i. let head = heads_from m heads c.without.ensures p i in h p head.0 head.1) told

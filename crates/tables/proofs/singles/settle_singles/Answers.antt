@@ -13,9 +13,9 @@ pub loop-chosen-init : goal.loop-chosen-init
 loop-chosen-init g c =
     let laws = laws_of g.V.Tally g.met.V.Tally.lawful in
     let b = setting_of c.args.task.now c.args.groups in (
-      singles_first laws b c.begin-singles.new.table
-          (λ k l. c.begin-singles.ensures.inside k (omega (arith, c.facts-facts.ensures)) ∙ ap (λ s. cond (has s k) (Value g.V.Tally.nil) Never) c.start.ensures)
-          c.take-singles.new.table (replicate 64 false) (none_done 64) c.take-singles.ensures.turn,
+      singles_first laws b c.begin_singles.new.table
+          (λ k l. c.begin_singles.ensures.inside k (omega (arith, c.facts-facts.ensures)) ∙ ap (λ s. cond (has s k) (Value g.V.Tally.nil) Never) c.start.ensures)
+          c.take_singles.new.table (replicate 64 false) (none_done 64) c.take_singles.ensures.turn,
       refl,
       λ k h. refl,
     )
@@ -33,9 +33,9 @@ loop-chosen-preserved g c =
     let picked = c.in-Some.ensures in
     let inside : u < length c.loop-chosen.done = omega (arith, picked.inside, c.from-count.ensures, c.facts-facts.ensures, c.requires.1, c.loop-chosen.invariant.1) in
     let among = subst (λ x. Cheapest g.V.Tally x c.loop-chosen.done c.loop-chosen.table u) (c.from-count.ensures ∙ c.facts-facts.ensures) picked in (
-      singles_more laws b c.loop-chosen.table c.take-singles-in-Some.new.table c.loop-chosen.done u inside among c.loop-chosen.invariant.0 c.take-singles-in-Some.ensures.turn,
+      singles_more laws b c.loop-chosen.table c.take_singles-in-Some.new.table c.loop-chosen.done u inside among c.loop-chosen.invariant.0 c.take_singles-in-Some.ensures.turn,
       length-set c.loop-chosen.done u true ∙ c.loop-chosen.invariant.1,
-      λ k h. c.take-singles-in-Some.ensures.past k h ∙ c.loop-chosen.invariant.2 k h,
+      λ k h. c.take_singles-in-Some.ensures.past k h ∙ c.loop-chosen.invariant.2 k h,
     )
 
 pub returns : goal.returns
@@ -43,9 +43,9 @@ returns g c =
     let laws = laws_of g.V.Tally g.met.V.Tally.lawful in
     let b = setting_of c.args.task.now c.args.groups in
     let table = c.loop-chosen.table in
-    let begun = subst (λ f. SamePast f c.args.table.now c.begin-singles.new.table) c.facts-facts.ensures c.begin-singles.ensures.past in
+    let begun = subst (λ f. SamePast f c.args.table.now c.begin_singles.new.table) c.facts-facts.ensures c.begin_singles.ensures.past in
     record {
       worked = λ checked. singles_end laws b (known c.args.task.now c.args.groups checked) table (λ k. get_or c.loop-chosen.done k false) c.loop-chosen.invariant.0
-          (λ k l d. c.in-default.ensures k (omega (arith, c.from-count.ensures, c.facts-facts.ensures)) d);
-      past = λ k h. c.loop-chosen.invariant.2 k h ∙ c.take-singles.ensures.past k h ∙ begun k h;
+          (λ k l d. c.in_default.ensures k (omega (arith, c.from-count.ensures, c.facts-facts.ensures)) d);
+      past = λ k h. c.loop-chosen.invariant.2 k h ∙ c.take_singles.ensures.past k h ∙ begun k h;
     }

@@ -11,8 +11,8 @@ loop-number-init g c = (record { runs = λ done floor r. r }, λ k h. refl)
 
 pub loop-number-preserved : goal.loop-number-preserved
 loop-number-preserved g c = (
-  record { runs = λ done floor r. c.take-single.ensures.turn.runs done floor (c.loop-number.invariant.0.runs done floor r) },
-  λ k h. c.take-single.ensures.past k h ∙ c.loop-number.invariant.1 k h,
+  record { runs = λ done floor r. c.take_single.ensures.turn.runs done floor (c.loop-number.invariant.0.runs done floor r) },
+  λ k h. c.take_single.ensures.past k h ∙ c.loop-number.invariant.1 k h,
 )
 
 pub returns : goal.returns

@@ -12,12 +12,12 @@ returns-in-48 c = (refl, λ n m. let l = looks c.args.v.now n m in omega (arith,
 pub returns-then-v-gt-DIGITS : goal.returns-then-v-gt-DIGITS
 returns-then-v-gt-DIGITS c = (refl, λ n m. let l = looks c.args.v.now n m in omega arith)
 
-pub returns-then-not-is-ascii-digit : goal.returns-then-not-is-ascii-digit
-returns-then-not-is-ascii-digit c = (
+pub returns-then-not-is_ascii_digit : goal.returns-then-not-is_ascii_digit
+returns-then-not-is_ascii_digit c = (
   refl,
   λ n m.
       let d = (looks c.args.v.now n m).digit c.loop-b.b-index (omega arith) in
-      omega (arith, c.if-not-is-ascii-digit.ensures.cases),
+      omega (arith, c.if-not-is_ascii_digit.ensures.cases),
 )
 
 pub overflow-mul-n : goal.overflow-mul-n
@@ -28,7 +28,7 @@ overflow-add-n c = let s = sofar_small c.args.v.now c.loop-b.b-index _ c.loop-b.
 
 pub loop-b-preserved : goal.loop-b-preserved
 loop-b-preserved c =
-    sofar_more c.args.v.now _ _ _ c.loop-b.invariant (omega arith) c.if-not-is-ascii-digit.ensures.cases (omega arith)
+    sofar_more c.args.v.now _ _ _ c.loop-b.invariant (omega arith) c.if-not-is_ascii_digit.ensures.cases (omega arith)
 
 pub returns : goal.returns
 returns c =

@@ -6,16 +6,16 @@ use Rattle.taskfile.specs.Values.{SetRead}
 use Rattle.taskfile.proofs.Listings.{start, nothing, step, last, refused_item, refused_last}
 use Rattle.taskfile.proofs.sets.set.Goals as goal
 
-pub returns-then-is-empty : goal.returns-then-is-empty
-returns-then-is-empty c = nothing c.args.v.now _ (true-eqb _ 0 c.if-is-empty.ensures) c.empty.ensures
+pub returns-then-is_empty : goal.returns-then-is_empty
+returns-then-is_empty c = nothing c.args.v.now _ (true-eqb _ 0 c.if-is_empty.ensures) c.empty.ensures
 
 pub loop-item-init : goal.loop-item-init
-loop-item-init c = start _ _ c.args.v.now refl refl c.empty-2.ensures (omega (arith, false-eqb _ 0 c.if-is-empty.ensures))
+loop-item-init c = start _ _ c.args.v.now refl refl c.empty-2.ensures (omega (arith, false-eqb _ 0 c.if-is_empty.ensures))
 
-pub returns-in-err-read : goal.returns-in-err-read
-returns-in-err-read c =
+pub returns-in_err-read : goal.returns-in_err-read
+returns-in_err-read c =
     let p = err_from_is_err_and c.from-residual.result c.from-residual.ensures.1 in
-    let f = c.in-err-read.ensures in
+    let f = c.in_err-read.ensures in
     rw (p.1, p.2, f.0)
     (c.loop-item.invariant (Err Malformed) (refused_item c.loop-item.read c.loop-item.rest.now _ _ c.in-Some.ensures f.1))
 
@@ -25,16 +25,16 @@ loop-item-smaller c =
     omega arith
 
 pub loop-item-preserved : goal.loop-item-preserved
-loop-item-preserved c = λ r f. c.loop-item.invariant r (step c.loop-item.read c.in-ok-read.read c.loop-item.rest.now _ _ c.in-Some.ensures c.in-ok-read.ensures r f)
+loop-item-preserved c = λ r f. c.loop-item.invariant r (step c.loop-item.read c.in_ok-read.read c.loop-item.rest.now _ _ c.in-Some.ensures c.in_ok-read.ensures r f)
 
-pub returns-in-err-read-2 : goal.returns-in-err-read-2
-returns-in-err-read-2 c =
-    let p = err_from_is_err_and c.from-residual-in-err-read-2.result c.from-residual-in-err-read-2.ensures.1 in
-    let f = c.in-err-read-2.ensures in
+pub returns-in_err-read-2 : goal.returns-in_err-read-2
+returns-in_err-read-2 c =
+    let p = err_from_is_err_and c.from-residual-in_err-read-2.result c.from-residual-in_err-read-2.ensures.1 in
+    let f = c.in_err-read-2.ensures in
     rw (p.1, p.2, f.0)
-    (c.loop-item.invariant (Err Malformed) (refused_last c.loop-item.read c.loop-item.rest.now c.in-default.ensures f.1))
+    (c.loop-item.invariant (Err Malformed) (refused_last c.loop-item.read c.loop-item.rest.now c.in_default.ensures f.1))
 
 pub returns : goal.returns
 returns c =
-    subst (SetRead c.args.v.now) (sym c.ok-or.ensures.value)
-    (c.loop-item.invariant (ok_or c.in-ok-read-2.read.facts OutOfRange) (last c.loop-item.read c.in-ok-read-2.read c.loop-item.rest.now c.in-default.ensures c.in-ok-read-2.ensures _ refl))
+    subst (SetRead c.args.v.now) (sym c.ok_or.ensures.value)
+    (c.loop-item.invariant (ok_or c.in_ok-read-2.read.facts OutOfRange) (last c.loop-item.read c.in_ok-read-2.read c.loop-item.rest.now c.in_default.ensures c.in_ok-read-2.ensures _ refl))

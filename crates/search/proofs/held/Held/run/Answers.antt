@@ -15,7 +15,7 @@ returns-in-Some g c = record {
 pub returns-then-grant-gt65536 : goal.returns-then-grant-gt65536
 returns-then-grant-gt65536 g c = record {
   fit = c.requires;
-  ran = record { task = refl; answered = λ checked made. by_rules _ c.in-default.is (run_refused (grant_too_large c.if-grant-gt65536.true)); grows = omega arith; rest = untouched };
+  ran = record { task = refl; answered = λ checked made. by_rules _ c.in_default.is (run_refused (grant_too_large c.if-grant-gt65536.true)); grows = omega arith; rest = untouched };
   lent = refl;
 }
 
@@ -24,7 +24,7 @@ returns-in-Some-unusable g c = record {
   fit = c.requires;
   ran = record {
     task = refl;
-    answered = λ checked made. by_rules _ c.in-default.is
+    answered = λ checked made. by_rules _ c.in_default.is
         (run_refused (RunRefused.bad_bound c.if-grant-gt65536.false (c.in-Some-unusable.ensures.tells checked _ refl)));
     grows = omega arith;
     rest = untouched;
@@ -47,13 +47,13 @@ returns g c =
       };
       ran = record {
         task = refl;
-        answered = λ checked made. by_rules _ c.in-default.is
-            (runs c.if-grant-gt65536.false (c.in-default-unusable.ensures.tells checked _ refl)
+        answered = λ checked made. by_rules _ c.in_default.is
+            (runs c.if-grant-gt65536.false (c.in_default-unusable.ensures.tells checked _ refl)
             (subst (λ n. Runs (problem_of g.V.Tally g.B.Bound s.task c.args.bound.now n) c.args.grant (take s.count s.table.now) s.end
             c.run-ran.result.reply (take c.run-ran.result.count c.run-ran.new.table) c.run-ran.result.end)
-            (c.requires.whole c.in-default.is) (c.run-ran.ensures.ran checked (c.requires.traced checked)).runs));
-        grows = more_records _ _ _ _ c.in-default.is grown.more (omega (arith, grown.fits, c.requires.fits, size));
-        rest = past_count {count = c.run-ran.result.count} _ c.in-default.is (omega (arith, grown.fits, c.requires.fits, size)) grown.untouched;
+            (c.requires.whole c.in_default.is) (c.run-ran.ensures.ran checked (c.requires.traced checked)).runs));
+        grows = more_records _ _ _ _ c.in_default.is grown.more (omega (arith, grown.fits, c.requires.fits, size));
+        rest = past_count {count = c.run-ran.result.count} _ c.in_default.is (omega (arith, grown.fits, c.requires.fits, size)) grown.untouched;
       };
       lent = refl;
     }

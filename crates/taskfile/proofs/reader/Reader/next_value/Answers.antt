@@ -6,11 +6,11 @@ use Rattle.taskfile.proofs.Taking.{unended, refused, took}
 use Rattle.taskfile.proofs.reader.Reader.next_value.Goals as goal
 use Rattle.taskfile.proofs.reader.Reader.next_value.Goals.{in-Facts-eq102, in-Moves-eq109, in-Start-eq115, in-Goal-eq103, in-Group-eq103, in-Price-eq112, in-Needs-eq110, in-Makes-eq109, in-Breaks-eq98}
 
-pub returns-in-default : goal.returns-in-default
-returns-in-default c = (refl, unended c.args.self.now c.in-default.ensures)
+pub returns-in_default : goal.returns-in_default
+returns-in_default c = (refl, unended c.args.self.now c.in_default.ensures)
 
-pub returns-in-default-2 : goal.returns-in-default-2
-returns-in-default-2 c = (refl, refused c.args.self.now c.in-Some.line.now _ c.in-Some.ensures (search rules))
+pub returns-in_default-2 : goal.returns-in_default-2
+returns-in_default-2 c = (refl, refused c.args.self.now c.in-Some.line.now _ c.in-Some.ensures (search rules))
 
 pub returns : goal.returns
 returns c =

@@ -6,5 +6,5 @@ use Rattle.taskfile.proofs.reader.Reader.number_value.Goals as goal
 
 pub returns-in-Number : goal.returns-in-Number
 returns-in-Number c =
-    read_number c.args.self.now c.next-value.new.self (Number c.in-Number.v)
-    (subst (λ x. TookLine c.args.self.now x c.next-value.new.self) c.in-Number.is c.in-ok-v.ensures) refl c.number-within.result c.number-within.ensures
+    read_number c.args.self.now c.next_value.new.self (Number c.in-Number.v)
+    (subst (λ x. TookLine c.args.self.now x c.next_value.new.self) c.in-Number.is c.in_ok-v.ensures) refl c.number_within.result c.number_within.ensures

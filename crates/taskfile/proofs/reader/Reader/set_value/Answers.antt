@@ -6,5 +6,5 @@ use Rattle.taskfile.proofs.reader.Reader.set_value.Goals as goal
 
 pub returns-in-Set : goal.returns-in-Set
 returns-in-Set c =
-    read_set c.args.self.now c.next-value.new.self (Set c.in-Set.v)
-    (subst (λ x. TookLine c.args.self.now x c.next-value.new.self) c.in-Set.is c.in-ok-next-value.ensures) refl c.set.result c.set.ensures
+    read_set c.args.self.now c.next_value.new.self (Set c.in-Set.v)
+    (subst (λ x. TookLine c.args.self.now x c.next_value.new.self) c.in-Set.is c.in_ok-next_value.ensures) refl c.set.result c.set.ensures

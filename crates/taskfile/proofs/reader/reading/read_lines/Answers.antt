@@ -9,28 +9,28 @@ use Rattle.taskfile.proofs.reader.reading.read_lines.Goals as goal
 abbrev first : Bor (List ℕ) → Reader
 first bytes = record { expected = Facts; rest = bytes; line = 1 }
 
-pub returns-in-err-heading : goal.returns-in-err-heading
-returns-in-err-heading c =
+pub returns-in_err-heading : goal.returns-in_err-heading
+returns-in_err-heading c =
     let p = err_from_is_err_and c.from-residual.result c.from-residual.ensures.1 in
-    rw (p.1, p.2) (refused_heading (first c.args.bytes) c.args.moves.now refl refl _ c.in-err-heading.ensures)
+    rw (p.1, p.2) (refused_heading (first c.args.bytes) c.args.moves.now refl refl _ c.in_err-heading.ensures)
 
-pub read-moves-requires : goal.read-moves-requires
-read-moves-requires c =
-    let r = ready _ (first c.args.bytes) c.read-heading.new.reader c.in-ok-heading.heading refl refl c.in-ok-heading.ensures in
+pub read_moves-requires : goal.read_moves-requires
+read_moves-requires c =
+    let r = ready _ (first c.args.bytes) c.read_heading.new.reader c.in_ok-heading.heading refl refl c.in_ok-heading.ensures in
     (r.key, r.line, r.count, r.fits)
 
-pub returns-in-err-read-moves : goal.returns-in-err-read-moves
-returns-in-err-read-moves c =
-    let p = err_from_is_err_and c.from-residual-in-err-read-moves.result c.from-residual-in-err-read-moves.ensures.1 in
+pub returns-in_err-read_moves : goal.returns-in_err-read_moves
+returns-in_err-read_moves c =
+    let p = err_from_is_err_and c.from-residual-in_err-read_moves.result c.from-residual-in_err-read_moves.ensures.1 in
     rw (p.1, p.2)
-    (refused_moves (first c.args.bytes) c.args.moves.now refl refl c.read-heading.new.reader c.in-ok-heading.heading c.in-ok-heading.ensures c.read-moves.new.moves _ c.in-err-read-moves.ensures)
+    (refused_moves (first c.args.bytes) c.args.moves.now refl refl c.read_heading.new.reader c.in_ok-heading.heading c.in_ok-heading.ensures c.read_moves.new.moves _ c.in_err-read_moves.ensures)
 
-pub returns-in-err-end : goal.returns-in-err-end
-returns-in-err-end c =
-    let p = err_from_is_err_and c.from-residual-in-err-end.result c.from-residual-in-err-end.ensures.1 in
+pub returns-in_err-end : goal.returns-in_err-end
+returns-in_err-end c =
+    let p = err_from_is_err_and c.from-residual-in_err-end.result c.from-residual-in_err-end.ensures.1 in
     rw (p.1, p.2)
-    (left_over (first c.args.bytes) c.args.moves.now refl refl c.read-heading.new.reader c.in-ok-heading.heading c.in-ok-heading.ensures c.read-moves.new.reader c.read-moves.new.moves c.in-ok-read-moves.ensures _ c.in-err-end.ensures)
+    (left_over (first c.args.bytes) c.args.moves.now refl refl c.read_heading.new.reader c.in_ok-heading.heading c.in_ok-heading.ensures c.read_moves.new.reader c.read_moves.new.moves c.in_ok-read_moves.ensures _ c.in_err-end.ensures)
 
 pub returns : goal.returns
 returns c =
-    accepted (first c.args.bytes) c.args.moves.now refl refl c.read-heading.new.reader c.in-ok-heading.heading c.in-ok-heading.ensures c.read-moves.new.reader c.read-moves.new.moves c.in-ok-read-moves.ensures c.in-ok-end.ensures
+    accepted (first c.args.bytes) c.args.moves.now refl refl c.read_heading.new.reader c.in_ok-heading.heading c.in_ok-heading.ensures c.read_moves.new.reader c.read_moves.new.moves c.in_ok-read_moves.ensures c.in_ok-end.ensures

@@ -6,11 +6,11 @@ pub returns : goal.returns
 returns c =
     let src = c.args.bytes.now in
     let before = c.args.moves.now in
-    let after = c.read-lines.new.moves in
-    let o = by_lines_outcome src before after c.read-lines.result c.requires c.read-lines.ensures in
+    let after = c.read_lines.new.moves in
+    let o = by_lines_outcome src before after c.read_lines.result c.requires c.read_lines.ensures in
     record {
       outcome = o;
-      only = λ s others p. one_outcome src before others after s c.read-lines.result p o;
-      exact = exact_lines src before after c.read-lines.result c.requires c.read-lines.ensures;
-      back = reads_back src before after c.read-lines.result o;
+      only = λ s others p. one_outcome src before others after s c.read_lines.result p o;
+      exact = exact_lines src before after c.read_lines.result c.requires c.read_lines.ensures;
+      back = reads_back src before after c.read_lines.result o;
     }
