@@ -36,7 +36,7 @@ MEANT = {
     "pendingText": "text_of_pending",
 }
 
-WORD = re.compile(r"[^\s(){}\[\],;.\"@]+")
+WORD = re.compile(r"[^\s(){}\[\],;:.\"@]+")
 DEFINED = re.compile(r"^\s*(?:abbrev |unfoldable |mutual )*(?:pub )?(?:data |record |ruleset |\| )?(?:pub )?([^\s:(){}.]+)(?:\s+[({].*[)}])*\s*:\s+(?!=)(\S+)")
 BOUND = re.compile(r"(?:\blet |[({]|\bas (?=[^\s:(){}.,]+(?:[,}\s]|$)))([^\s:(){}.,]+)(?= [=:]|[,}]|$)")
 ALIAS = re.compile(r" as (\w+)(?=[,}])")

@@ -3,7 +3,7 @@ ghost use Rattle.std.specs.Prelude.{◌≡◌, ℕ, Bool};
 ghost use Rattle.costs.specs.Laws.{Lawful};
 
 pub trait Tally: Copy {
-    ghost atMost: { Self → Self → Bool };
+    ghost at_most: { Self → Self → Bool };
 
     ghost nil: { Self };
 
