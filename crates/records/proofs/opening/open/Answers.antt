@@ -6,7 +6,7 @@ use Rattle.records.proofs.opening.open.Goals as goal
 
 pub returns-in_err-count : goal.returns-in_err-count
 returns-in_err-count g c =
-    let p = err_from_is_err_and c.from-residual.result c.from-residual.ensures.1 in
+    let p = err_from_is_err_and c.from_residual.result c.from_residual.ensures.1 in
     rw (p.1, p.2) (record { grows = c.in_err-count.ensures.grows; opened = c.in_err-count.ensures.taken })
 
 pub returns : goal.returns

@@ -30,7 +30,7 @@ returns-in_err-next g c =
     let end =
     no_room _ _ _ _ _ c.loop-number.invariant c.in-Some.ensures c.in-Some-regress.ensures (sym c.estimate.ensures ∙ c.in-Value.is)
     c.in_err-next.field-0.0 c.requires.room c.child.ensures (λ lead is. c.in_err-next.ensures _ _ _ _ _ _ _ refl lead is) in
-    let p = err_from_is_err_and c.from-residual.result c.from-residual.ensures.1 in
+    let p = err_from_is_err_and c.from_residual.result c.from_residual.ensures.1 in
     rw (p.1, p.2) (record { grows = end.1; taken = λ checked. end.0 })
 
 pub loop-number-preserved : goal.loop-number-preserved

@@ -81,5 +81,5 @@ loop-first-preserved g c =
           (is_not c.if-arrives.ensures) (done.opened checked) (leb-false _ _ (sym c.if-is_used_up.ensures)),
     )
 
-pub overflow-add-opened : goal.overflow-add-opened
-overflow-add-opened g c = omega (arith, leb-false _ _ (sym c.if-is_used_up.ensures))
+pub overflow_add-opened : goal.overflow_add-opened
+overflow_add-opened g c = omega (arith, leb-false _ _ (sym c.if-is_used_up.ensures))

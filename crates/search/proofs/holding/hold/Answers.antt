@@ -21,8 +21,8 @@ returns-in-Some g c =
       };
     }
 
-pub overflow-cast-room : goal.overflow-cast-room
-overflow-cast-room g c =
+pub overflow_cast-room : goal.overflow_cast-room
+overflow_cast-room g c =
     let P = problem_of g.V.Tally g.B.Bound c.args.task c.args.bound.now (length c.args.table.now) in
     omega (arith, (is_roomy P c.turned_down-kept.ensures c.in_default.is).few)
 

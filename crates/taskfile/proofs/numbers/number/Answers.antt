@@ -1,7 +1,7 @@
 use Rattle.std.proofs.Common.{refl, arith, ltb-false, ltb-true}
 use Rattle.taskfile.proofs.Decimals.{sofar_more, sofar_small, is_numeral, looks}
 use Rattle.taskfile.proofs.numbers.number.Goals as goal
-use Rattle.taskfile.proofs.numbers.number.Goals.{then-v-lt2, else-v-lt2+in-default·}
+use Rattle.taskfile.proofs.numbers.number.Goals.{then-v-lt2, else-v-lt2+in_default-1}
 
 pub returns-in-empty : goal.returns-in-empty
 returns-in-empty c = (refl, λ n m. let l = looks c.args.v.now n m in omega (arith, ltb-true))
@@ -20,11 +20,11 @@ returns-then-not-is_ascii_digit c = (
       omega (arith, c.if-not-is_ascii_digit.ensures.cases),
 )
 
-pub overflow-mul-n : goal.overflow-mul-n
-overflow-mul-n c = let s = sofar_small c.args.v.now c.loop-b.b-index _ c.loop-b.invariant (omega arith) in omega arith
+pub overflow_mul-n : goal.overflow_mul-n
+overflow_mul-n c = let s = sofar_small c.args.v.now c.loop-b.b-index _ c.loop-b.invariant (omega arith) in omega arith
 
-pub overflow-add-n : goal.overflow-add-n
-overflow-add-n c = let s = sofar_small c.args.v.now c.loop-b.b-index _ c.loop-b.invariant (omega arith) in omega arith
+pub overflow_add-n : goal.overflow_add-n
+overflow_add-n c = let s = sofar_small c.args.v.now c.loop-b.b-index _ c.loop-b.invariant (omega arith) in omega arith
 
 pub loop-b-preserved : goal.loop-b-preserved
 loop-b-preserved c =
@@ -33,4 +33,4 @@ loop-b-preserved c =
 pub returns : goal.returns
 returns c =
     is_numeral c.args.v.now _ _ c.loop-b.invariant (omega arith) (omega (arith, ltb-false)) (omega arith)
-    (elim c.if-v-lt2.branch [ then-v-lt2 w ↦ λ z. omega (arith, ltb-true, ltb-false) | else-v-lt2+in-default· w ↦ λ z. absurd (omega arith) ])
+    (elim c.if-v-lt2.branch [ then-v-lt2 w ↦ λ z. omega (arith, ltb-true, ltb-false) | else-v-lt2+in_default-1 w ↦ λ z. absurd (omega arith) ])

@@ -14,7 +14,7 @@ loop-item-init c = start _ _ c.args.v.now refl refl c.empty-2.ensures (omega (ar
 
 pub returns-in_err-read : goal.returns-in_err-read
 returns-in_err-read c =
-    let p = err_from_is_err_and c.from-residual.result c.from-residual.ensures.1 in
+    let p = err_from_is_err_and c.from_residual.result c.from_residual.ensures.1 in
     let f = c.in_err-read.ensures in
     rw (p.1, p.2, f.0)
     (c.loop-item.invariant (Err Malformed) (refused_item c.loop-item.read c.loop-item.rest.now _ _ c.in-Some.ensures f.1))
@@ -29,7 +29,7 @@ loop-item-preserved c = λ r f. c.loop-item.invariant r (step c.loop-item.read c
 
 pub returns-in_err-read-2 : goal.returns-in_err-read-2
 returns-in_err-read-2 c =
-    let p = err_from_is_err_and c.from-residual-in_err-read-2.result c.from-residual-in_err-read-2.ensures.1 in
+    let p = err_from_is_err_and c.from_residual-in_err-read-2.result c.from_residual-in_err-read-2.ensures.1 in
     let f = c.in_err-read-2.ensures in
     rw (p.1, p.2, f.0)
     (c.loop-item.invariant (Err Malformed) (refused_last c.loop-item.read c.loop-item.rest.now c.in_default.ensures f.1))

@@ -6,5 +6,5 @@ run-requires g c =
     let s = c.args.self.now in
     record { counted = s.counted; fits = s.fits; whole = s.whole; inside = inside_known _ _ s.inside; traced = s.traced }
 
-pub invariant-of-self : goal.invariant-of-self
-invariant-of-self g c = let fit = c.run.ensures.fit in (fit.counted, (fit.fits, (fit.whole, (∣ fit.inside ∣₁, (fit.traced, tt)))))
+pub invariant_of-self : goal.invariant_of-self
+invariant_of-self g c = let fit = c.run.ensures.fit in (fit.counted, (fit.fits, (fit.whole, (∣ fit.inside ∣₁, (fit.traced, tt)))))

@@ -11,7 +11,7 @@ first bytes = record { expected = Facts; rest = bytes; line = 1 }
 
 pub returns-in_err-heading : goal.returns-in_err-heading
 returns-in_err-heading c =
-    let p = err_from_is_err_and c.from-residual.result c.from-residual.ensures.1 in
+    let p = err_from_is_err_and c.from_residual.result c.from_residual.ensures.1 in
     rw (p.1, p.2) (refused_heading (first c.args.bytes) c.args.moves.now refl refl _ c.in_err-heading.ensures)
 
 pub read_moves-requires : goal.read_moves-requires
@@ -21,13 +21,13 @@ read_moves-requires c =
 
 pub returns-in_err-read_moves : goal.returns-in_err-read_moves
 returns-in_err-read_moves c =
-    let p = err_from_is_err_and c.from-residual-in_err-read_moves.result c.from-residual-in_err-read_moves.ensures.1 in
+    let p = err_from_is_err_and c.from_residual-in_err-read_moves.result c.from_residual-in_err-read_moves.ensures.1 in
     rw (p.1, p.2)
     (refused_moves (first c.args.bytes) c.args.moves.now refl refl c.read_heading.new.reader c.in_ok-heading.heading c.in_ok-heading.ensures c.read_moves.new.moves _ c.in_err-read_moves.ensures)
 
 pub returns-in_err-end : goal.returns-in_err-end
 returns-in_err-end c =
-    let p = err_from_is_err_and c.from-residual-in_err-end.result c.from-residual-in_err-end.ensures.1 in
+    let p = err_from_is_err_and c.from_residual-in_err-end.result c.from_residual-in_err-end.ensures.1 in
     rw (p.1, p.2)
     (left_over (first c.args.bytes) c.args.moves.now refl refl c.read_heading.new.reader c.in_ok-heading.heading c.in_ok-heading.ensures c.read_moves.new.reader c.read_moves.new.moves c.in_ok-read_moves.ensures _ c.in_err-end.ensures)
 

@@ -8,7 +8,7 @@ loop-place-init c = (moves_none c.args.reader.now c.args.moves.now, c.requires.0
 
 pub returns-in_err-read_place : goal.returns-in_err-read_place
 returns-in_err-read_place c =
-    let p = err_from_is_err_and c.from-residual.result c.from-residual.ensures.1 in
+    let p = err_from_is_err_and c.from_residual.result c.from_residual.ensures.1 in
     rw (p.1, p.2)
     (moves_stop c.loop-place.place c.args.reader.now c.loop-place.reader c.args.moves.now c.loop-place.moves c.loop-place.invariant.0 c.args.count c.read_place.new.moves _ c.in_err-read_place.ensures (omega arith))
 
