@@ -119,7 +119,7 @@ def root(text, at):
     return word.rstrip("'0123456789"), parts
 
 
-def turned(text, names, fields, lets, skip):
+def turned(text, names, fields, lets, skip, made):
     taken = names | lets
 
     def one(m):
@@ -128,7 +128,7 @@ def turned(text, names, fields, lets, skip):
             return word
         if m.start() > 0 and m.string[m.start() - 1] == ".":
             first, depth = root(m.string, m.start() - 1)
-            if first in MADE and (depth < 2 or word not in fields):
+            if first in made and (depth < 2 or word not in fields):
                 return word
             if word not in names:
                 return word
@@ -162,14 +162,15 @@ def main(argv):
     for p in list(files(top, (".antt", ".rt", ".edit"))):
         text = read(p)
         skip = foreign(text)
+        made = MADE if os.path.basename(p) in ("Answers.antt", "Invariants.antt") else set()
         lets = bound.get(p, set()) if p.endswith(".antt") else set(ALIAS.findall(text))
         lines = []
         for line in text.split("\n"):
             comment, quoted = ("--", False) if p.endswith(".antt") else ("//", True)
             if p.endswith(".antt") and not line.lstrip().startswith("--"):
-                lines.append(turned(line, names, fields, lets, skip))
+                lines.append(turned(line, names, fields, lets, skip, made))
                 continue
-            lines.append("".join(turned(t, names, fields, lets, skip) if code else t for code, t in code_parts(line, comment, quoted)))
+            lines.append("".join(turned(t, names, fields, lets, skip, made) if code else t for code, t in code_parts(line, comment, quoted)))
         new = "\n".join(lines)
         if new != text:
             before = set(WORD.findall(text))

@@ -31,7 +31,7 @@ module _ {V K : Type 0} {tally : Ghosts V} (laws : LawsOf tally) {val : K → Es
   pub top_join : {P Q R : K → Type 0} {e f r : Estimate V} → Top tally P val e → Top tally Q val f → Larger (not_above tally.at_most) e f r
       → ((k : K) → R k → P k ⊎ Q k) → ((k : K) → P k → R k) → ((k : K) → Q k → R k) → Top tally R val r
   top_join {e = e} {f = f} {r = r} t u l split left right = record {
-    upper = λ k p. ⊎_elim (λ x. order.transitive laws (val k) e r (t.upper k x) l.above-one) (λ x. order.transitive laws (val k) f r (u.upper k x) l.above_other) (split k p);
+    upper = λ k p. ⊎_elim (λ x. order.transitive laws (val k) e r (t.upper k x) l.above_one) (λ x. order.transitive laws (val k) f r (u.upper k x) l.above_other) (split k p);
     reached = ⊎_elim
         (λ is. ⊎_elim (λ x. inl (is ∙ x)) (λ w. inr (w.0, left w.0 w.1, is ∙ w.2)) t.reached)
         (λ is. ⊎_elim (λ x. inl (is ∙ x)) (λ w. inr (w.0, right w.0 w.1, is ∙ w.2)) u.reached)

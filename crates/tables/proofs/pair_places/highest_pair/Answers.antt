@@ -13,7 +13,7 @@ pub loop-p-preserved : goal.loop-p-preserved
 loop-p-preserved g c =
     let laws = laws_of g.V.Tally g.met.V.Tally.lawful in
     let val = place_of_pair c.args.facts c.args.table.now in
-    let all = c.into-iter-p-iterator.result.left in
+    let all = c.into_iter-p-iterator.result.left in
     let left = c.loop-p.p-iterator.left in
     let after = c.next.new.self.left in
     let x = c.in-Some.p in
@@ -29,8 +29,8 @@ loop-p-preserved g c =
 pub returns : goal.returns
 returns g c =
     let laws = laws_of g.V.Tally g.met.V.Tally.lawful in
-    let all = c.into-iter-p-iterator.result.left in
+    let all = c.into_iter-p-iterator.result.left in
     let left = c.loop-p.p-iterator.left in
-    let is = ap (λ x. x.left) c.into-iter-p-iterator.ensures.into-iter-gives ∙ c.iter-p-items.ensures in
+    let is = ap (λ x. x.left) c.into_iter-p-iterator.ensures.into_iter-gives ∙ c.iter-p-items.ensures in
     top_like laws (λ k h. (gone_in c.args.set all left is k.0 h.0, h.1))
     (λ k h. (gone_all c.args.set all left is c.in-None.ensures.steps k.0 h.0, h.1)) c.loop-p.invariant.1

@@ -14,7 +14,7 @@ pub loop-q-preserved : goal.loop-q-preserved
 loop-q-preserved g c =
     let laws = laws_of g.V.Tally g.met.V.Tally.lawful in
     let val = place_of_pair c.args.facts c.args.table.now in
-    let all = c.into-iter-q-iterator.result.left in
+    let all = c.into_iter-q-iterator.result.left in
     let left = c.loop-q.q-iterator.left in
     let after = c.next.new.self.left in
     let p = c.args.p in
@@ -32,8 +32,8 @@ loop-q-preserved g c =
 pub returns : goal.returns
 returns g c =
     let laws = laws_of g.V.Tally g.met.V.Tally.lawful in
-    let all = c.into-iter-q-iterator.result.left in
+    let all = c.into_iter-q-iterator.result.left in
     let left = c.loop-q.q-iterator.left in
-    let is = ap (λ x. x.left) c.into-iter-q-iterator.ensures.into-iter-gives ∙ c.iter-q-items.ensures in
+    let is = ap (λ x. x.left) c.into_iter-q-iterator.ensures.into_iter-gives ∙ c.iter-q-items.ensures in
     top_like laws (λ k h. (h.0, gone_in c.args.set all left is k.1 h.1))
     (λ k h. (h.0, gone_all c.args.set all left is c.in-None.ensures.steps k.1 h.1)) c.loop-q.invariant.1

@@ -67,7 +67,7 @@ loop-r-init g c =
     let i = c.args.number in
     let m = get_or c.moves.result.now i no_move in
     let at : At b.moves i m = subst (λ l. At l i m) c.moves.ensures (at_get c.moves.result.now i no_move (omega (arith, ap length c.moves.ensures, c.requires.one))) in
-    let all = c.into-iter-r-iterator.result.left in (
+    let all = c.into_iter-r-iterator.result.left in (
       (λ f h. h),
       c.highest_pair-base.ensures,
       (λ settled touched. with_first laws b settled i m at (place_of_pair b.facts c.args.table.now) (Gone all all) (λ x gone. gone.1 gone.0)),
@@ -90,14 +90,14 @@ loop-r-preserved g c =
     let new = c.lower_pairs.new.table in
     let val = place_of_pair b.facts old in
     let to = place_of_pair b.facts new in
-    let all = c.into-iter-r-iterator.result.left in
+    let all = c.into_iter-r-iterator.result.left in
     let left = c.loop-r.r-iterator.left in
     let after = c.next.new.self.left in
     let r = c.in-Some.r in
     let within = c.loop-r.invariant.0 in
     let next = c.in-Some.ensures.steps in
     let others = c.concerned-others.result in
-    let all_is : all ≡ others = ap (λ x. x.left) c.into-iter-r-iterator.ensures.into-iter-gives ∙ c.iter-r-items.ensures in
+    let all_is : all ≡ others = ap (λ x. x.left) c.into_iter-r-iterator.ensures.into_iter-gives ∙ c.iter-r-items.ensures in
     let here : T (has others r) = subst (λ s. T (has s r)) all_is (next_here all left after r within next) in
     let whole = unbroken c.args.all others m c.args.settled b.facts c.requires.whole c.concerned-others.ensures r here in
     let heads = c.without-heads.result in
@@ -128,11 +128,11 @@ returns g c =
     let i = c.args.number in
     let m = get_or c.moves.result.now i no_move in
     let at : At b.moves i m = subst (λ l. At l i m) c.moves.ensures (at_get c.moves.result.now i no_move (omega (arith, ap length c.moves.ensures, c.requires.one))) in
-    let all = c.into-iter-r-iterator.result.left in
+    let all = c.into_iter-r-iterator.result.left in
     let left = c.loop-r.r-iterator.left in
     let others = c.concerned-others.result in
     let settled = c.args.settled in
-    let all_is : all ≡ others = ap (λ x. x.left) c.into-iter-r-iterator.ensures.into-iter-gives ∙ c.iter-r-items.ensures in
+    let all_is : all ≡ others = ap (λ x. x.left) c.into_iter-r-iterator.ensures.into_iter-gives ∙ c.iter-r-items.ensures in
     let is = c.concerned-others.ensures in
     let every = with_last laws b settled i m at (place_of_pair b.facts c.loop-r.table) (Gone all left)
     (λ x l unb t. gone_all others all left all_is c.in-None.ensures.steps x (concerned c.args.all others m settled b.facts c.requires.whole is x l unb t)) in

@@ -13,7 +13,7 @@ pub loop-fact-preserved : goal.loop-fact-preserved
 loop-fact-preserved g c =
     let laws = laws_of g.V.Tally g.met.V.Tally.lawful in
     let val = place_of_single c.args.facts c.args.table.now in
-    let all = c.into-iter-fact-iterator.result.left in
+    let all = c.into_iter-fact-iterator.result.left in
     let left = c.loop-fact.fact-iterator.left in
     let after = c.next.new.self.left in
     let x = c.in-Some.fact in
@@ -28,7 +28,7 @@ loop-fact-preserved g c =
 pub returns : goal.returns
 returns g c =
     let laws = laws_of g.V.Tally g.met.V.Tally.lawful in
-    let all = c.into-iter-fact-iterator.result.left in
+    let all = c.into_iter-fact-iterator.result.left in
     let left = c.loop-fact.fact-iterator.left in
-    let is = ap (λ x. x.left) c.into-iter-fact-iterator.ensures.into-iter-gives ∙ c.iter-fact-items.ensures in
+    let is = ap (λ x. x.left) c.into_iter-fact-iterator.ensures.into_iter-gives ∙ c.iter-fact-items.ensures in
     top_like laws (gone_in c.args.set all left is) (gone_all c.args.set all left is c.in-None.ensures.steps) c.loop-fact.invariant.1

@@ -11,7 +11,7 @@ loop-fact-init g c =
 pub loop-fact-preserved : goal.loop-fact-preserved
 loop-fact-preserved g c =
     let laws = laws_of g.V.Tally g.met.V.Tally.lawful in
-    let all = c.into-iter-fact-iterator.result.left in
+    let all = c.into_iter-fact-iterator.result.left in
     let left = c.loop-fact.fact-iterator.left in
     let after = c.next.new.self.left in
     let x = c.in-Some.fact in
@@ -28,9 +28,9 @@ loop-fact-preserved g c =
 pub returns : goal.returns
 returns g c =
     let laws = laws_of g.V.Tally g.met.V.Tally.lawful in
-    let all = c.into-iter-fact-iterator.result.left in
+    let all = c.into_iter-fact-iterator.result.left in
     let left = c.loop-fact.fact-iterator.left in
-    let is = ap (λ x. x.left) c.into-iter-fact-iterator.ensures.into-iter-gives ∙ c.iter-fact-items.ensures in
+    let is = ap (λ x. x.left) c.into_iter-fact-iterator.ensures.into_iter-gives ∙ c.iter-fact-items.ensures in
     record {
       lowers = lowers_like laws (λ k p. (p.0, gone_in c.args.set all left is k p.1))
           (λ k p. (p.0, gone_all c.args.set all left is c.in-None.ensures.steps k p.1)) c.loop-fact.invariant.1;

@@ -17,7 +17,7 @@ returns-in_err-heading c =
 pub read_moves-requires : goal.read_moves-requires
 read_moves-requires c =
     let r = ready _ (first c.args.bytes) c.read_heading.new.reader c.in_ok-heading.heading refl refl c.in_ok-heading.ensures in
-    (r.key, r.line, r.count, r.fits)
+    record { expected_value = r.key; line_value = r.line; count_bound = r.count; count_in_bounds = r.fits }
 
 pub returns-in_err-read_moves : goal.returns-in_err-read_moves
 returns-in_err-read_moves c =

@@ -4,7 +4,7 @@ use Rattle.taskfile.proofs.Filling.{moves_none, moves_more, moves_stop, next_gro
 use Rattle.taskfile.proofs.reader.reading.read_moves.Goals as goal
 
 pub loop-place-init : goal.loop-place-init
-loop-place-init c = (moves_none c.args.reader.now c.args.moves.now, c.requires.0)
+loop-place-init c = (moves_none c.args.reader.now c.args.moves.now, c.requires.expected_value)
 
 pub returns-in_err-read_place : goal.returns-in_err-read_place
 returns-in_err-read_place c =
