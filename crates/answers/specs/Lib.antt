@@ -1,3 +1,3 @@
+pub mod Floors
 pub mod Texts
-pub mod Solutions
 pub mod Responses

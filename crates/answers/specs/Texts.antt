@@ -1,35 +1,21 @@
 -- What is printed, byte by byte.
-use Rattle.std.specs.Prelude.{ℕ, List, ◌++◌, codes, decimal}
+use Rattle.std.specs.Prelude.{◌≡◌, ℕ, List, ◌++◌, length, codes, decimal}
+use Rattle.facts.specs.Sets.{Lists}
+use Rattle.tasks.specs.declared.draft.Draft.{Draft}
+use Rattle.costs.specs.declared.estimate.Estimate.{Estimate}
 use Rattle.costs.specs.declared.minutes.Minutes.{Minutes}
 use Rattle.taskfile.specs.Entries.{joined}
-use Rattle.theory.specs.declared.reply.Kind.{Kind}
-use Rattle.theory.specs.declared.reply.Kind.TheVariants.{Pending, Plan, NoPlan, Full}
-use Rattle.theory.specs.declared.reply.Reply.{Reply}
+use Rattle.answers.specs.Floors.{floor_text}
 
 -- a refusal, with its number and its line
 abbrev pub text_of_refusal : ℕ → ℕ → List ℕ
 text_of_refusal number line = codes "answer=refused\nnumber=" ++ (decimal number ++ (codes "\nline=" ++ (decimal line ++ codes "\n")))
 
--- a plan: its cost, how many moves it has, their numbers in list order joined by commas, and the openings
-abbrev pub text_of_plan : ℕ → ℕ → List ℕ → ℕ → List ℕ
-text_of_plan cost length moves opened = codes "answer=plan\ncost=" ++ (decimal cost ++ (codes "\nlength=" ++ (decimal length
-    ++ (codes "\nmoves=" ++ (joined moves ++ (codes "\nopened=" ++ (decimal opened ++ codes "\n")))))))
-
-abbrev pub text_of_none : ℕ → List ℕ
-text_of_none opened = codes "answer=none\nopened=" ++ (decimal opened ++ codes "\n")
-
-abbrev pub text_of_full : ℕ → ℕ → List ℕ
-text_of_full floor opened = codes "answer=full\nfloor=" ++ (decimal floor ++ (codes "\nopened=" ++ (decimal opened ++ codes "\n")))
-
-abbrev pub text_of_pending : ℕ → ℕ → List ℕ
-text_of_pending floor opened = codes "answer=pending\nfloor=" ++ (decimal floor ++ (codes "\nopened=" ++ (decimal opened ++ codes "\n")))
-
--- by the kind of the reply
-abbrev pub text_by : Kind → Reply Minutes → List ℕ → List ℕ
-text_by Plan r moves = text_of_plan r.value.total r.length moves r.opened
-text_by NoPlan r moves = text_of_none r.opened
-text_by Full r moves = text_of_full r.value.total r.opened
-text_by Pending r moves = text_of_pending r.value.total r.opened
-
-abbrev pub text_of_answer : Reply Minutes → List ℕ → List ℕ
-text_of_answer r moves = text_by r.kind r moves
+-- the heading of a draft, its sets as rising numbers joined by commas, and below it the floor
+pub record AcceptedText (d : Draft) (floor : Estimate Minutes) (text : List ℕ) : Type 0 where
+  pub start : List ℕ
+  pub goal : List ℕ
+  pub start_lists : Lists d.start start
+  pub goal_lists : Lists d.goal goal
+  pub bytes : text ≡ codes "facts=" ++ (decimal d.facts ++ (codes "\nmoves=" ++ (decimal (length d.moves.now)
+      ++ (codes "\nstart=" ++ (joined start ++ (codes "\ngoal=" ++ (joined goal ++ (codes "\nfloor=" ++ (floor_text floor ++ codes "\n")))))))))

@@ -1,11 +1,12 @@
 // What the program prints, as text: each function says which bytes it makes.
 #![tactic(auto)]
 
-mod finding;
-mod moves;
+mod floors;
 mod response;
+mod sets;
 mod texts;
 
-pub use moves::moves_text;
+pub use floors::{floor_of, floor_text};
 pub use response::respond;
-pub use texts::{answer_text, refused_text};
+pub use sets::set_text;
+pub use texts::{accepted_text, refused_text};

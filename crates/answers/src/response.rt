@@ -1,15 +1,13 @@
 // The whole program, from the bytes that it is handed to the text that it prints.
-ghost use Rattle.std.specs.Prelude.{◌≡◌, ◌≤◌, IfOk, string_bytes};
-ghost use Rattle.tasks.specs.declared.draft.Draft.{Draft};
-ghost use Rattle.taskfile.specs.Headings.{DraftOf};
+ghost use Rattle.std.specs.Prelude.{◌≡◌, length, IfOk, string_bytes};
 ghost use Rattle.answers.specs.Responses.{Response, Judged};
 
-use crate::finding::find;
-use crate::texts::{answer_text, refused_text};
+use crate::floors::floor_of;
+use crate::texts::{accepted_text, refused_text};
 use facts::FactSet;
 use std::alloc::{AllocError, Global};
-use taskfile::{Heading, read};
-use tasks::Move;
+use taskfile::read;
+use tasks::{Draft, Move, check};
 
 // The answer to a task file.
 pub fn respond(heap: Global, bytes: &[u8]) -> Result<String, AllocError>
@@ -24,23 +22,29 @@ pub fn respond(heap: Global, bytes: &[u8]) -> Result<String, AllocError>
         breaks: none,
     };
     let mut moves = [blank; 1024];
-    match read(bytes, &mut moves) {
+    respond_by(heap, bytes, &mut moves)
+}
+
+// The same, with a list into which the moves are read.
+fn respond_by(heap: Global, bytes: &[u8], moves: &mut [Move]) -> Result<String, AllocError>
+    requires { length moves.old ≡ 1024 }
+    ensures { IfOk result (λ text. Response bytes.now (string_bytes text)) }
+{
+    match read(bytes, moves) {
         Err(misread) => refused_text(heap, misread.flaw.number(), misread.line),
-        Ok(heading) => solve(heap, heading, moves),
+        Ok(heading) => match heading.draft(moves) {
+            Some(draft) => judge(heap, draft),
+            None => unreachable(),
+        },
     }
 }
 
-// What the check or the search says of the task of a heading and its moves.
-fn solve(heap: Global, heading: Heading, moves: [Move; 1024]) -> Result<String, AllocError>
-    requires { heading.count ≤ 1024 }
-    ensures { IfOk result (λ text. (d : Draft) × DraftOf heading moves d × Judged d (string_bytes text)) }
+// What the check says of a draft.
+fn judge(heap: Global, draft: Draft<'_>) -> Result<String, AllocError>
+    ensures { IfOk result (λ text. Judged draft.entry (string_bytes text)) }
 {
-    let mut list = [0; 1024];
-    match find(heading, moves, &mut list) {
+    match check(draft) {
+        Ok(task) => accepted_text(heap, &draft, floor_of(&task)),
         Err(fault) => refused_text(heap, fault.refusal.number(), 0),
-        Ok(reply) => {
-            let length = usize::from(reply.length).min(1024);
-            answer_text(heap, &reply, &list[0..length])
-        }
     }
 }

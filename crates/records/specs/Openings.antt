@@ -11,13 +11,17 @@ use Rattle.theory.specs.Records.{shutting}
 use Rattle.theory.specs.declared.record.Record.{Record}
 use Rattle.records.specs.declared.taking.Full.{Full}
 
+-- the problem of a call: the task, what is seen of the bound, and the room
+abbrev pub problem_of : {B V : Type 0} (tally : Ghosts V) → Bounding B V → Task → B → ℕ → Problem tally
+problem_of tally bounding task bound room = record {
+  task = task;
+  bound = record { fits = bounding.fitting bound task; estimate = bounding.estimated bound; share = bounding.shared bound };
+  room = room;
+}
+
 -- what is seen of a bound that is handed to a call
 abbrev pub lent_of : {B V : Type 0} → Bounding B V → Task → B → Lent V
 lent_of bounding task bound = record { fits = bounding.fitting bound task; estimate = bounding.estimated bound; share = bounding.shared bound }
-
--- the problem of a call: the task, what is seen of the bound, and the room
-abbrev pub problem_of : {B V : Type 0} (tally : Ghosts V) → Bounding B V → Task → B → ℕ → Problem tally
-problem_of tally bounding task bound room = record { task = task; bound = lent_of bounding task bound; room = room }
 
 -- record i was marked as shut
 abbrev pub ShutAt : {V : Type 0} → List (Record V) → ℕ → List (Record V) → Type 0

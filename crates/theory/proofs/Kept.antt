@@ -7,7 +7,7 @@ use Rattle.tasks.proofs.Places.{at_same}
 use Rattle.costs.specs.Laws.{Lawful}
 use Rattle.costs.specs.Lists.{Costs}
 use Rattle.costs.specs.declared.tally.Tally.{Ghosts}
-use Rattle.theory.specs.Problem.{Problem, Lent, Usable, Roomy, Honest}
+use Rattle.theory.specs.Problem.{Problem, Lent, handed, Usable, Roomy, Honest}
 use Rattle.theory.specs.Meets.{MeetsMore}
 use Rattle.theory.specs.Records.{First, goal_waits, no_hope}
 use Rattle.theory.specs.Runs.{Trail, Tells, tells_plan, tells_none, tells_full, Runs, again, finds, goes_on}
@@ -28,8 +28,23 @@ use Rattle.theory.proofs.Paths.{Fitting, leads_costs, leads_good}
 use Rattle.theory.proofs.Table.{rooted_at, rooted_trail, rooted_leads}
 use Rattle.theory.proofs.Standing.{FloorAt, Standing, first_stands, run_stands, at_work, found_plan, gave_up, overfull}
 use Rattle.theory.proofs.Count.{waiting_shuts, run_pending, run_shuts}
-use Rattle.theory.proofs.Handed.{as_made}
 use Rattle.theory.proofs.Told.{uncounted, Said, Listed, trail_same, run_says, run_keeps, new_floor, said_under, list_keeps, end_told, floor_told, listed}
+
+-- a bound with the same estimates makes no difference to a run
+pub handed_same : {V : Type 0} {tally : Ghosts V} (P : Problem tally) (b : Lent V) → SameEstimates P b → handed P b ≡ P
+handed_same P b same = λ i. record {
+  task = P.task;
+  bound = record { fits = P.bound.fits; estimate = λ s. same s i; share = P.bound.share };
+  room = P.room;
+}
+
+pub as_made : {V : Type 0} {tally : Ghosts V} (P : Problem tally) (b : Lent V) → SameEstimates P b → {n : ℕ} {recs later : List (Record V)}
+    {end last : End} {r : Reply V} → Runs (handed P b) n recs end r later last → Runs P n recs end r later last
+as_made P b same {n} {recs} {later} {end} {last} {r} go = subst (λ Q. Runs Q n recs end r later last) (handed_same P b same) go
+
+pub as_handed : {V : Type 0} {tally : Ghosts V} (P : Problem tally) (b : Lent V) → SameEstimates P b → {n : ℕ} {recs later : List (Record V)}
+    {end last : End} {r : Reply V} → Runs P n recs end r later last → Runs (handed P b) n recs end r later last
+as_handed P b same {n} {recs} {later} {end} {last} {r} go = subst (λ Q. Runs Q n recs end r later last) (sym (handed_same P b same)) go
 
 -- a new search after runs with these grants in all
 pub data Grown {V : Type 0} {tally : Ghosts V} (P : Problem tally) : ℕ → List (Record V) → End → Type 0 where
@@ -244,7 +259,7 @@ module _ {V : Type 0} {tally : Ghosts V} (laws : Laws tally) {P : Problem tally}
     roomy = roomy.some;
     laws = laws;
     checked = honest.checked;
-    trusted = record { sound = honest.sound roomy usable.fitting; drawn = usable.drawn };
+    trusted = record { sound = honest.sound usable.fitting; drawn = usable.drawn };
   }
 
   made_stood : {new : State V} → Makes P new → Stood P [] new

@@ -10,9 +10,9 @@ pub mod Opening
 pub mod Standing
 pub mod Count
 pub mod Told
-pub mod Handed
 pub mod Kept
 pub mod Respond
 pub mod Same
 pub mod Join
 pub mod Single
+pub mod Examples

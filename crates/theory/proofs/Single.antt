@@ -27,8 +27,7 @@ use Rattle.theory.proofs.Paths.{Fitting}
 use Rattle.theory.proofs.Table.{rooted_trail}
 use Rattle.theory.proofs.Standing.{Standing, at_work, found_plan, gave_up, overfull}
 use Rattle.theory.proofs.Told.{trail_same}
-use Rattle.theory.proofs.Handed.{as_made, as_handed}
-use Rattle.theory.proofs.Kept.{Grown, Turned, Stood, stood, turned_away, at_hand}
+use Rattle.theory.proofs.Kept.{as_made, as_handed, Grown, Turned, Stood, stood, turned_away, at_hand}
 use Rattle.theory.proofs.Respond.{respond}
 use Rattle.theory.proofs.Same.{first_same, runs_same}
 use Rattle.theory.proofs.Join.{records_same, run_alike}

@@ -6,3 +6,4 @@ pub mod Runs
 pub mod Refusals
 pub mod Queue
 pub mod Promise
+pub mod Examples

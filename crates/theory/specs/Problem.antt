@@ -25,9 +25,13 @@ AtMost tally u v = T (tally.at_most u v)
 abbrev pub Lower : {V : Type 0} → Ghosts V → V → V → Type 0
 Lower tally u v = tally.at_most v u ≡ false
 
--- the problem as a run sees it that is handed this bound
+-- the problem with the estimates of another bound: a run reads nothing else of the bound that it is handed
 abbrev pub handed : {V : Type 0} {tally : Ghosts V} → Problem tally → Lent V → Problem tally
-handed P b = record { task = P.task; bound = b; room = P.room }
+handed P b = record {
+  task = P.task;
+  bound = record { fits = P.bound.fits; estimate = b.estimate; share = P.bound.share };
+  room = P.room;
+}
 
 -- the bound fits and is not overdrawn
 pub record Usable {V : Type 0} {tally : Ghosts V} (P : Problem tally) (b : Lent V) : Type 0 where
@@ -39,7 +43,7 @@ pub record Roomy {V : Type 0} {tally : Ghosts V} (P : Problem tally) : Type 0 wh
   pub some : 1 ≤ P.room
   pub few : P.room ≤ 65535
 
--- what the promises suppose: the task is checked, and the bound keeps its two laws if it fits, which is asked only where the room is right
+-- what the promises suppose: the task is checked, and a bound that fits keeps its two laws
 pub record Honest {V : Type 0} {tally : Ghosts V} (P : Problem tally) : Type 0 where
   pub checked : Checked P.task
-  pub sound : Roomy P → P.bound.fits ≡ true → Sound tally P.task P.bound.estimate P.bound.share
+  pub sound : P.bound.fits ≡ true → Sound tally P.task P.bound.estimate P.bound.share

@@ -11,5 +11,5 @@ pub use refusal::Refusal;
 pub use reply::{End, Kind, Reply};
 pub use theorems::{
     every_call_has_one_answer, every_make_has_one_outcome, only_the_sum_counts,
-    queues_keep_promises,
+    queues_keep_promises, small_task_worked_through,
 };

@@ -1,4 +1,5 @@
 // What is proved of the search, for every kind of cost: see specs/Promise.antt.
+ghost use Rattle.theory.specs.Examples.{Worked};
 ghost use Rattle.theory.specs.Promise.{QueuesKeepPromises, OnlySumCounts, EveryCallAnswered, EveryMakeDecided};
 
 use costs::Tally;
@@ -21,4 +22,9 @@ pub fn every_call_has_one_answer<V: Tally>()
 // Every make has an outcome, refused ones included, and only one.
 pub fn every_make_has_one_outcome<V: Tally>()
     ensures { EveryMakeDecided V.Tally }
+{}
+
+// A small task worked through by the rules: see specs/Examples.antt.
+pub fn small_task_worked_through()
+    ensures { Worked }
 {}

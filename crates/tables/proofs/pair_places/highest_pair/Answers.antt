@@ -31,6 +31,6 @@ returns g c =
     let laws = laws_of g.V.Tally g.met.V.Tally.lawful in
     let all = c.into_iter-p-iterator.result.left in
     let left = c.loop-p.p-iterator.left in
-    let is = ap (λ x. x.left) c.into_iter-p-iterator.ensures.into_iter-gives ∙ c.iter-p-items.ensures in
+    let is = ap (λ x. x.left) c.into_iter-p-iterator.ensures.into_iter_gives ∙ c.iter-p-items.ensures in
     top_like laws (λ k h. (gone_in c.args.set all left is k.0 h.0, h.1))
     (λ k h. (gone_all c.args.set all left is c.in-None.ensures.steps k.0 h.0, h.1)) c.loop-p.invariant.1

@@ -56,7 +56,7 @@ returns g c =
     let laws = laws_of g.V.Tally g.met.V.Tally.lawful in
     let all = c.into_iter-p-iterator.result.left in
     let left = c.loop-p.p-iterator.left in
-    let is = ap (λ x. x.left) c.into_iter-p-iterator.ensures.into_iter-gives ∙ c.iter-p-items.ensures in
+    let is = ap (λ x. x.left) c.into_iter-p-iterator.ensures.into_iter_gives ∙ c.iter-p-items.ensures in
     let in_set = gone_in c.args.heads all left is in
     let all_gone = gone_all c.args.heads all left is c.in-None.ensures.steps in
     record {

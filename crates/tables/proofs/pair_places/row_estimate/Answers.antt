@@ -34,6 +34,6 @@ returns g c =
     let laws = laws_of g.V.Tally g.met.V.Tally.lawful in
     let all = c.into_iter-q-iterator.result.left in
     let left = c.loop-q.q-iterator.left in
-    let is = ap (λ x. x.left) c.into_iter-q-iterator.ensures.into_iter-gives ∙ c.iter-q-items.ensures in
+    let is = ap (λ x. x.left) c.into_iter-q-iterator.ensures.into_iter_gives ∙ c.iter-q-items.ensures in
     top_like laws (λ k h. (h.0, gone_in c.args.set all left is k.1 h.1))
     (λ k h. (h.0, gone_all c.args.set all left is c.in-None.ensures.steps k.1 h.1)) c.loop-q.invariant.1

@@ -14,7 +14,7 @@ returns-then-not-at_most g c =
     let left = c.loop-p.p-iterator.left in
     let after = c.next.new.self.left in
     let x = c.in-Some.p in
-    let is = ap (λ y. y.left) c.into_iter-p-iterator.ensures.into_iter-gives ∙ c.iter-p-items.ensures in
+    let is = ap (λ y. y.left) c.into_iter-p-iterator.ensures.into_iter_gives ∙ c.iter-p-items.ensures in
     let told = c.at_most.ensures ∙ ap (λ e. not_above g.V.Tally.at_most e c.args.limit) c.pair_place.ensures in
     fails_at c.args.set x (subst (λ s. T (has s x)) is (next_here all left after x c.loop-p.invariant.0 c.in-Some.ensures.steps)) (λ h. not_both h (sym told ∙ c.if-not-at_most.true))
 
@@ -34,5 +34,5 @@ pub returns : goal.returns
 returns g c =
     let all = c.into_iter-p-iterator.result.left in
     let left = c.loop-p.p-iterator.left in
-    let is = ap (λ y. y.left) c.into_iter-p-iterator.ensures.into_iter-gives ∙ c.iter-p-items.ensures in
+    let is = ap (λ y. y.left) c.into_iter-p-iterator.ensures.into_iter_gives ∙ c.iter-p-items.ensures in
     ((λ e p h. c.loop-p.invariant.1 p (gone_all c.args.set all left is c.in-None.ensures.steps p h)), λ h. refl)

@@ -14,7 +14,7 @@ returns-then-not-column_within g c =
     let left = c.loop-r.r-iterator.left in
     let after = c.next.new.self.left in
     let x = c.in-Some.r in
-    let is = ap (λ y. y.left) c.into_iter-r-iterator.ensures.into_iter-gives ∙ c.iter-r-items.ensures in
+    let is = ap (λ y. y.left) c.into_iter-r-iterator.ensures.into_iter_gives ∙ c.iter-r-items.ensures in
     let val = place_of_pair c.args.facts c.args.table.now in
     fails_at c.args.start x (subst (λ s. T (has s x)) is (next_here all left after x c.loop-r.invariant.0 c.in-Some.ensures.steps))
     (λ h. not_true_false (c.if-not-column_within.ensures.1 (subst (λ e. (p : ℕ) → T (has c.args.start p) → NotAbove g.V.Tally (val (p, x)) e) (sym c.nil.ensures) h)))
@@ -35,5 +35,5 @@ pub returns : goal.returns
 returns g c =
     let all = c.into_iter-r-iterator.result.left in
     let left = c.loop-r.r-iterator.left in
-    let is = ap (λ y. y.left) c.into_iter-r-iterator.ensures.into_iter-gives ∙ c.iter-r-items.ensures in
+    let is = ap (λ y. y.left) c.into_iter-r-iterator.ensures.into_iter_gives ∙ c.iter-r-items.ensures in
     ((λ e r h. c.loop-r.invariant.1 r (gone_all c.args.start all left is c.in-None.ensures.steps r h)), λ h. refl)

@@ -97,7 +97,7 @@ loop-r-preserved g c =
     let within = c.loop-r.invariant.0 in
     let next = c.in-Some.ensures.steps in
     let others = c.concerned-others.result in
-    let all_is : all ≡ others = ap (λ x. x.left) c.into_iter-r-iterator.ensures.into_iter-gives ∙ c.iter-r-items.ensures in
+    let all_is : all ≡ others = ap (λ x. x.left) c.into_iter-r-iterator.ensures.into_iter_gives ∙ c.iter-r-items.ensures in
     let here : T (has others r) = subst (λ s. T (has s r)) all_is (next_here all left after r within next) in
     let whole = unbroken c.args.all others m c.args.settled b.facts c.requires.whole c.concerned-others.ensures r here in
     let heads = c.without-heads.result in
@@ -132,7 +132,7 @@ returns g c =
     let left = c.loop-r.r-iterator.left in
     let others = c.concerned-others.result in
     let settled = c.args.settled in
-    let all_is : all ≡ others = ap (λ x. x.left) c.into_iter-r-iterator.ensures.into_iter-gives ∙ c.iter-r-items.ensures in
+    let all_is : all ≡ others = ap (λ x. x.left) c.into_iter-r-iterator.ensures.into_iter_gives ∙ c.iter-r-items.ensures in
     let is = c.concerned-others.ensures in
     let every = with_last laws b settled i m at (place_of_pair b.facts c.loop-r.table) (Gone all left)
     (λ x l unb t. gone_all others all left all_is c.in-None.ensures.steps x (concerned c.args.all others m settled b.facts c.requires.whole is x l unb t)) in

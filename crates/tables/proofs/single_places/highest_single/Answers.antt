@@ -30,5 +30,5 @@ returns g c =
     let laws = laws_of g.V.Tally g.met.V.Tally.lawful in
     let all = c.into_iter-fact-iterator.result.left in
     let left = c.loop-fact.fact-iterator.left in
-    let is = ap (λ x. x.left) c.into_iter-fact-iterator.ensures.into_iter-gives ∙ c.iter-fact-items.ensures in
+    let is = ap (λ x. x.left) c.into_iter-fact-iterator.ensures.into_iter_gives ∙ c.iter-fact-items.ensures in
     top_like laws (gone_in c.args.set all left is) (gone_all c.args.set all left is c.in-None.ensures.steps) c.loop-fact.invariant.1

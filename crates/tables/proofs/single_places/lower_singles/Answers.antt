@@ -30,7 +30,7 @@ returns g c =
     let laws = laws_of g.V.Tally g.met.V.Tally.lawful in
     let all = c.into_iter-fact-iterator.result.left in
     let left = c.loop-fact.fact-iterator.left in
-    let is = ap (λ x. x.left) c.into_iter-fact-iterator.ensures.into_iter-gives ∙ c.iter-fact-items.ensures in
+    let is = ap (λ x. x.left) c.into_iter-fact-iterator.ensures.into_iter_gives ∙ c.iter-fact-items.ensures in
     record {
       lowers = lowers_like laws (λ k p. (p.0, gone_in c.args.set all left is k p.1))
           (λ k p. (p.0, gone_all c.args.set all left is c.in-None.ensures.steps k p.1)) c.loop-fact.invariant.1;

@@ -1,5 +1,5 @@
 use Rattle.std.proofs.Common.{rules}
-use Rattle.answers.proofs.response.respond.Goals as goal
+use Rattle.solutions.proofs.response.respond.Goals as goal
 
 -- src/response.rt:34:24
 pub solve-requires : goal.solve-requires

@@ -1,5 +1,5 @@
 use Rattle.std.proofs.Common.{rules}
-use Rattle.answers.proofs.finding.find.Goals as goal
+use Rattle.solutions.proofs.finding.find.Goals as goal
 
 -- src/finding.rt:47:14
 pub unreachable-requires-in_default-first : goal.unreachable-requires-in_default-first

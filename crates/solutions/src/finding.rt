@@ -1,6 +1,6 @@
 // The search that the program makes: minutes, the pair table of all groups, 1,024 records and as many openings.
 ghost use Rattle.std.specs.Prelude.{◌≡◌, ◌≤◌, length};
-ghost use Rattle.answers.specs.Solutions.{Found};
+ghost use Rattle.solutions.specs.Solutions.{Found};
 
 use costs::{Estimate, Minutes, Tally};
 use facts::FactSet;

@@ -1,5 +1,5 @@
 use Rattle.std.proofs.Common.{rules}
-use Rattle.answers.proofs.response.solve.Goals as goal
+use Rattle.solutions.proofs.response.solve.Goals as goal
 
 -- src/response.rt:39:1
 pub returns-in-Err : goal.returns-in-Err

@@ -1,7 +1,7 @@
 use Rattle.std.proofs.Common.{◌≡◌, ℕ, ◌+◌, ◌<◌, cond, eqb, List, ◌∷◌, ◌++◌, length, get_or, take, decimal, sym, ap, ◌∙◌, arith}
 use Rattle.taskfile.specs.Entries.{joined}
-use Rattle.answers.proofs.Commas.{joined_more, more_not_none}
-use Rattle.answers.proofs.moves.moves_text.Goals as goal
+use Rattle.solutions.proofs.Commas.{joined_more, more_not_none}
+use Rattle.solutions.proofs.moves.moves_text.Goals as goal
 
 pub loop-number-preserved : goal.loop-number-preserved
 loop-number-preserved c = ?

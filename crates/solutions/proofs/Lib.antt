@@ -1,0 +1,2 @@
+mod Announced
+mod Commas

@@ -1,0 +1,3 @@
+pub mod Texts
+pub mod Solutions
+pub mod Responses
