@@ -6,7 +6,7 @@ use Rattle.tasks.specs.Tasks.{Checked, goal_of}
 use Rattle.tasks.proofs.Places.{at_less}
 use Rattle.costs.specs.declared.estimate.Estimate.TheVariants.{Value, Never}
 use Rattle.costs.specs.declared.tally.Tally.{Ghosts}
-use Rattle.theory.specs.Problem.{Problem, Usable, Roomy, Honest}
+use Rattle.theory.specs.Problem.{Problem, Usable, Roomy}
 use Rattle.theory.specs.Queue.{kept, holding, Unusable, Makes, no_place, too_many_places, fresh}
 use Rattle.theory.specs.Records.{goal_record, goal_waits, no_hope}
 use Rattle.theory.specs.declared.record.Record.{Record}
@@ -47,14 +47,6 @@ module _ {V : Type 0} {tally : Ghosts V} (P : Problem tally) {r : Option Refusal
 
   pub is_roomy : r ≡ None → Roomy P
   is_roomy e = roomy_by sized e
-
-  pub is_honest : Checked P.task → Honest P
-  is_honest checked = honest_by sized
-    where
-      honest_by : {o : Option Refusal} → SizedUp tally P.task P.bound P.room o → Honest P
-      honest_by (parts.no_place z) = record { checked = checked; sound = λ ok fits. absurd (omega (arith, ok.some)) }
-      honest_by (parts.too_many h) = record { checked = checked; sound = λ ok fits. absurd (omega (arith, ok.few)) }
-      honest_by (parts.roomy some few j) = record { checked = checked; sound = λ ok fits. j.sound fits }
 
   pub is_refused : {why : Refusal} (recs : List (Record V)) (end : End) → r ≡ Some why → Checked P.task → Makes P (state_by r recs end)
   is_refused {why} recs end e checked = subst (λ o. Makes P (state_by o recs end)) (sym e) (refused_by sized e)

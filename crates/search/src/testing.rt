@@ -1,7 +1,7 @@
 // What is looked at before a search is made or run, and its first record.
 ghost use Rattle.std.specs.Prelude.{◌≡◌, ◌<◌, length, set};
 ghost use Rattle.records.specs.Openings.{lent_of};
-ghost use Rattle.search.specs.Parts.{Judged, SizedUp};
+ghost use Rattle.search.specs.Parts.{Judged, SizedUp, SoundOn};
 ghost use Rattle.theory.specs.declared.record.Mark.TheVariants.{Waiting};
 
 use bounds::{Bound, is_overdrawn};
@@ -29,12 +29,14 @@ pub fn turned_down<V: Tally, B: Bound<Value = V>>(
     bound: &B,
     places: usize,
 ) -> Option<Refusal>
-    ensures { SizedUp V.Tally task.now (lent_of B.Bound task.now bound.now) places result }
+    ensures sized { SizedUp V.Tally task.now (lent_of B.Bound task.now bound.now) places result }
+    ensures sound { SoundOn V.Tally task.now (lent_of B.Bound task.now bound.now) }
 {
+    let judged = unusable(task, bound);
     if places == 0 || places > 65535 {
         return Some(Refusal::TableSize);
     }
-    unusable(task, bound)
+    judged
 }
 
 // The record of the goal.

@@ -10,6 +10,7 @@ pub mod Opening
 pub mod Standing
 pub mod Count
 pub mod Told
+pub mod Handed
 pub mod Kept
 pub mod Respond
 pub mod Same

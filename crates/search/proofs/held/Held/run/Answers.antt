@@ -1,7 +1,9 @@
 use Rattle.std.proofs.Common.{take, sym, refl, ◌∙◌, subst, arith}
 use Rattle.theory.specs.Queue.{grant_too_large, run_refused, RunRefused, runs}
 use Rattle.theory.specs.Runs.{Runs}
-use Rattle.records.specs.Openings.{problem_of}
+use Rattle.theory.proofs.Handed.{run_by}
+use Rattle.records.specs.Openings.{lent_of, problem_of}
+use Rattle.search.specs.States.{problem_in}
 use Rattle.search.proofs.Answering.{keeps_number, by_rules, more_records, past_count, untouched}
 use Rattle.search.proofs.held.Held.run.Goals as goal
 
@@ -35,6 +37,7 @@ returns-in-Some-unusable g c = record {
 pub returns : goal.returns
 returns g c =
     let s = c.args.self.now in
+    let lent = lent_of g.B.Bound s.task c.args.bound.now in
     let grown = c.run-ran.ensures.grown in
     let size = grown.untouched.size in
     record {
@@ -49,9 +52,10 @@ returns g c =
         task = refl;
         answered = λ checked made. by_rules _ c.in_default.is
             (runs c.if-grant-gt65536.false (c.in_default-unusable.ensures.tells checked _ refl)
+            (run_by (problem_in g.V.Tally s made) lent (record { fits = made.fits; estimate = lent.estimate; share = made.share }) (λ set. refl)
             (subst (λ n. Runs (problem_of g.V.Tally g.B.Bound s.task c.args.bound.now n) c.args.grant (take s.count s.table.now) s.end
             c.run-ran.result.reply (take c.run-ran.result.count c.run-ran.new.table) c.run-ran.result.end)
-            (c.requires.whole c.in_default.is) (c.run-ran.ensures.ran checked (c.requires.traced checked)).runs));
+            (c.requires.whole c.in_default.is) (c.run-ran.ensures.ran checked (c.requires.traced checked)).runs)));
         grows = more_records _ _ _ _ c.in_default.is grown.more (omega (arith, grown.fits, c.requires.fits, size));
         rest = past_count {count = c.run-ran.result.count} _ c.in_default.is (omega (arith, grown.fits, c.requires.fits, size)) grown.untouched;
       };

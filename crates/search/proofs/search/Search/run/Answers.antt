@@ -7,4 +7,4 @@ run-requires g c =
     record { counted = s.counted; fits = s.fits; whole = s.whole; inside = inside_known _ _ s.inside; traced = s.traced }
 
 pub invariant_of-self : goal.invariant_of-self
-invariant_of-self g c = let fit = c.run.ensures.fit in (fit.counted, (fit.fits, (fit.whole, (∣ fit.inside ∣₁, (fit.traced, tt)))))
+invariant_of-self g c = let fit = c.run.ensures.fit in record { counted = fit.counted; fits = fit.fits; whole = fit.whole; inside = ∣ fit.inside ∣₁; traced = fit.traced }
