@@ -37,7 +37,7 @@ module _ {V : Type 0} {tally : Ghosts V} where
     honest : Honest (posing tally (task_from start goal) (blind tally) room)
     honest = record {
       checked = checked start goal (lit< s) (lit< g);
-      sound = λ roomy fits. record { within = λ s w. refl; step = λ k m s u a r. laws.least (tally.join tally.nil tally.nil) };
+      sound = λ fits. record { within = λ s w. refl; step = λ k m s u a r. laws.least (tally.join tally.nil tally.nil) };
     }
 
     posed : T (leb 1 room) → T (leb room 65535) → Posed (posing tally (task_from start goal) (blind tally) room)
@@ -47,7 +47,7 @@ module _ {V : Type 0} {tally : Ghosts V} where
         laws = record { lawful = laws };
         checked = honest.checked;
         trusted = record {
-          sound = honest.sound (record { some = lit≤ some; few = lit≤ few }) refl;
+          sound = honest.sound refl;
           drawn = λ o. not_both (laws.least (charge_of tally o.1)) o.3;
         };
       };
@@ -57,7 +57,7 @@ module _ {V : Type 0} {tally : Ghosts V} where
 
   shown : {P : Problem tally} {es : List (Event V)} {now : State V} → Posed P → Own P es → Queue P es now → Goes P es
   shown {P} p own q =
-      goes P p.fitting.laws.lawful (record { checked = p.fitting.checked; sound = λ roomy fits. p.fitting.trusted.sound }) own q
+      goes P p.fitting.laws.lawful (record { checked = p.fitting.checked; sound = λ fits. p.fitting.trusted.sound }) own q
 
   made_so : {P : Problem tally} {state : State V} → Makes P state → Made P state
   made_so {P} m = record { makes = m; only = λ other n. makes_same P n m }
@@ -136,7 +136,7 @@ worked_cases = record {
   no_way_by_pairs = record {
     one = (tables.startless_by_pairs).one;
     all = λ pairs. goes (posing minutes startless (reading pairs) 4) minutes_lawful
-        (record { checked = checked 0 6 (lit< tt) (lit< tt); sound = λ roomy fits. tables.startless_bound pairs }) (refl, tt)
+        (record { checked = checked 0 6 (lit< tt) (lit< tt); sound = λ fits. tables.startless_bound pairs }) (refl, tt)
         (and_call (made (fresh four (pairs_usable pairs) (no_hope ((tables.startless_by_pairs).all pairs))))
         (runs (lit≤ tt) (pairs_usable pairs) (runs_out (λ j q a w. elim a [ ]))));
   };
