@@ -3,7 +3,7 @@ use Rattle.std.proofs.Common.{◌≡◌, ℕ, Bool, T, sym, ap, ◌∙◌, subst
 use Rattle.facts.specs.declared.sets.FactSet.{FactSet}
 use Rattle.tasks.specs.declared.task.Task.{Task}
 use Rattle.costs.specs.Choices.{larger_of}
-use Rattle.costs.specs.Estimates.{not_above, join_each}
+use Rattle.costs.specs.Estimates.{join_each}
 use Rattle.costs.specs.Laws.{Lawful}
 use Rattle.costs.specs.declared.estimate.Estimate.{Estimate}
 use Rattle.costs.specs.declared.estimate.Estimate.TheVariants.{Value}

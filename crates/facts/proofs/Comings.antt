@@ -1,9 +1,9 @@
 -- The facts of a set as they come, one after another in rising order.
-use Rattle.std.proofs.Common.{◌≡◌, ℕ, ◌<◌, ◌≤◌, Bool, true, false, not, ◌&&◌, T, eqb, ◌⊎◌, List, [], ◌∷◌, ◌++◌, sym, refl, ap, ◌∙◌, subst, inl, inr, ⊎_elim, arith}
-use Rattle.std.proofs.lemmas.Bool.Decides.{nat_tests, Decides-eqb}
-use Rattle.facts.specs.Sets.{has, Among, Rises, Lists, Next}
+use Rattle.std.proofs.Common.{◌≡◌, ℕ, ◌<◌, ◌≤◌, Bool, true, false, not, ◌&&◌, T, eqb, ◌⊎◌, List, [], ◌∷◌, ◌++◌, sym, refl, ap, subst, inl, inr, ⊎_elim, arith}
+use Rattle.std.proofs.lemmas.Bool.Decides.{Decides-eqb}
+use Rattle.facts.specs.Sets.{has, Among, Rises, Lists}
 use Rattle.facts.specs.declared.sets.FactSet.{FactSet}
-use Rattle.facts.proofs.Tests.{from_true, to_true, not_both, and_left, and_right, and_both, not_true, not_of}
+use Rattle.facts.proofs.Tests.{from_true, to_true, not_both, and_left, and_right, and_both, not_true}
 
 -- the facts xs have come of the set s, and those of `left` are still to come
 pub record Split (s : FactSet) (xs : List ℕ) (left : FactSet) : Type 0 where

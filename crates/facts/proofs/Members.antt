@@ -1,9 +1,9 @@
 -- Sets by their facts: equality, sets made of sets, and the list of a set's facts.
-use Rattle.std.proofs.Common.{◌≡◌, ℕ, zero, suc, ◌+◌, ◌/◌, ◌%◌, ◌^◌, ◌<◌, ◌≤◌, Bool, true, false, not, ◌&&◌, ◌||◌, T, eqb, ◌⊎◌, List, [], ◌∷◌, map, length, Decides, sym, refl, ap, ◌∙◌, subst, inl, inr, ⊎_elim, pow-suc, arith}
+use Rattle.std.proofs.Common.{◌≡◌, ℕ, zero, suc, ◌/◌, ◌%◌, ◌≤◌, not, ◌&&◌, ◌||◌, T, eqb, ◌⊎◌, List, [], ◌∷◌, map, length, sym, refl, ap, ◌∙◌, subst, inl, inr, ⊎_elim, arith}
 use lib.Bits.{bit_and, bit_or, bit_xor}
 use lib.Count.{ones, ones_step}
 use Rattle.facts.specs.Words.{bit}
-use Rattle.facts.specs.Sets.{has, Within, Overlap, Among, Rises, Lists}
+use Rattle.facts.specs.Sets.{has, Overlap, Among, Rises, Lists}
 use Rattle.facts.specs.declared.sets.FactSet.{FactSet}
 use Rattle.facts.proofs.Tests.{from_true, to_true, not_both}
 use Rattle.facts.proofs.Words.{bit_none, bit_half, bit_low, bit_of_or, bit_of_less, same_bits, parity, any_shared}

@@ -1,7 +1,7 @@
 -- What the operations on words do to each bit.
-use Rattle.std.proofs.Common.{◌≡◌, ℕ, zero, suc, ◌+◌, ◌-◌, ◌*◌, ◌/◌, ◌%◌, ◌^◌, ◌<◌, ◌≤◌, min, max, Bool, true, false, not, ◌&&◌, ◌||◌, T, eqb, ◌⊎◌, Decides, sym, refl, ap, ◌∙◌, subst, inl, inr, ⊎_elim, pow-suc, div-one, mul-div_cancel, one-add, arith}
+use Rattle.std.proofs.Common.{◌≡◌, ℕ, zero, suc, ◌+◌, ◌-◌, ◌/◌, ◌%◌, ◌^◌, ◌<◌, ◌≤◌, min, max, Bool, true, false, not, ◌&&◌, ◌||◌, T, eqb, ◌⊎◌, Decides, sym, refl, ap, ◌∙◌, subst, inl, inr, ⊎_elim, pow-suc, div-one, mul-div_cancel, one-add, arith}
 use native.Mathlib.Nat.{div-eq_of_lt, zero-div, div_self, pow-le-pow_right}
-use lib.Bits.{bit_and, bit_or, bit_xor, and_le_l, or_step, and_step, xor_step, xor_add_and}
+use lib.Bits.{bit_and, bit_or, bit_xor, and_le_l, or_step, and_step, xor_add_and}
 use lib.Count.{ones, ones_step, count_trailing_zeros, under}
 use Rattle.std.proofs.lemmas.Nat.{pow_below, pow_pos, shr-shr, shr_le, or_shr, and_shr, xor_shr, pow-add}
 use Rattle.std.proofs.lemmas.Bool.{cases_lt, cases_order}

@@ -1,5 +1,5 @@
 -- What carrying out and regressing do to each fact. All that follows uses these laws alone.
-use Rattle.std.proofs.Common.{◌≡◌, ℕ, not, ◌&&◌, ◌||◌, T, ◌⊎◌, sym, refl, ap, ◌∙◌, subst, inl, inr, ⊎_elim}
+use Rattle.std.proofs.Common.{◌≡◌, ℕ, not, ◌&&◌, ◌||◌, T, ◌⊎◌, sym, ap, ◌∙◌, subst, inl, inr, ⊎_elim}
 use Rattle.facts.specs.Sets.{has, Within, Overlap}
 use Rattle.facts.specs.declared.sets.FactSet.{FactSet}
 use Rattle.facts.proofs.Members.{same_facts, union, has_union, without, has_without}

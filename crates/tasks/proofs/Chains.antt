@@ -1,16 +1,13 @@
 -- Good lists and chains of regressions.
-use Rattle.std.proofs.Common.{ℕ, ◌⊎◌, List, [], ◌∷◌, ◌++◌, inl, inr}
+use Rattle.std.proofs.Common.{ℕ, List, [], ◌∷◌, ◌++◌}
 use Rattle.facts.specs.Sets.{Within, Overlap}
 use Rattle.facts.specs.declared.sets.FactSet.{FactSet}
 use Rattle.facts.proofs.Members.{overlap_or_not}
-use Rattle.tasks.specs.Lists.{Step, Carried, Good, Chain, Reaches, Sublist, empty, keep, skip, ChainsAreGoodLists, GoodListsHaveChains}
-use Rattle.tasks.specs.Moves.{Carries, Regresses}
+use Rattle.tasks.specs.Lists.{Step, Carried, Chain, Sublist, empty, keep, skip, ChainsAreGoodLists, GoodListsHaveChains}
 use Rattle.tasks.specs.Places.{At}
-use Rattle.tasks.specs.Tasks.{start_of, goal_of, moves_of, Checked}
 use Rattle.tasks.specs.declared.moves.Move.{Move}
 use Rattle.tasks.specs.declared.refusal.Place.TheVariants.{Move as OfMove}
 use Rattle.tasks.specs.declared.refusal.Refusal.TheVariants.{MakesAndBreaks}
-use Rattle.tasks.specs.declared.task.Task.{Task}
 use Rattle.tasks.proofs.Bearing.{carried_on, before, Before, stood, regressed}
 
 -- one more move at the end of a list

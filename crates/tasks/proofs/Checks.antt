@@ -1,5 +1,5 @@
 -- What the check finds, and what it has then seen of a task.
-use Rattle.std.proofs.Common.{◌≡◌, ℕ, ◌+◌, ◌<◌, ◌≤◌, Bool, true, false, length, get_or, Decides, sym, refl, subst, inl, inr, ⊎_elim, arith}
+use Rattle.std.proofs.Common.{◌≡◌, ℕ, ◌+◌, ◌<◌, ◌≤◌, false, length, Decides, subst, inr, ⊎_elim, arith}
 use Rattle.std.proofs.lemmas.Bool.{cases_lt}
 use Rattle.facts.proofs.Tests.{not_true_false}
 use Rattle.tasks.specs.Faults.{HeadingFault, MoveFault, Faulty, FirstPlace, turn}
@@ -10,7 +10,7 @@ use Rattle.tasks.specs.declared.refusal.Place.{Place}
 use Rattle.tasks.specs.declared.refusal.Place.TheVariants.{Heading, Move as OfMove}
 use Rattle.tasks.specs.declared.refusal.Refusal.{Refusal}
 use Rattle.tasks.specs.declared.refusal.Refusal.TheVariants.{OutOfRange}
-use Rattle.tasks.proofs.Places.{at_get, at_less, at_same}
+use Rattle.tasks.proofs.Places.{at_less, at_same}
 
 pub few_moves : (d : Draft) → ((p : Place) → Faulty d OutOfRange p → ⊥) → length d.moves.now ≤ 1024
 few_moves d none = ⊎_elim (λ l. absurd (none Heading (inr (inr l)))) (λ l. l) (cases_lt 1024 (length d.moves.now))

@@ -1,5 +1,5 @@
 -- What the check looks for: the faults of a draft, and which of them comes first.
-use Rattle.std.specs.Prelude.{◌≡◌, ℕ, suc, ◌<◌, ◌≤◌, ◌⊎◌, length}
+use Rattle.std.specs.Prelude.{ℕ, suc, ◌<◌, ◌≤◌, ◌⊎◌, length}
 use Rattle.facts.specs.Sets.{HasFrom, Overlap}
 use Rattle.tasks.specs.Places.{At}
 use Rattle.tasks.specs.Refusals.{number_of}

@@ -1,4 +1,4 @@
-use Rattle.std.proofs.Common.{◌≡◌, ℕ, ◌^◌, ◌<◌, false, sym, subst, arith}
+use Rattle.std.proofs.Common.{◌≡◌, ◌^◌, ◌<◌, false, sym, subst, arith}
 use borrow.Author.Numbers.{trailing_lt}
 use Rattle.facts.specs.Words.{bit}
 use Rattle.facts.proofs.Words.{bit_none, bit_inside, lowest_set, lowest_least}

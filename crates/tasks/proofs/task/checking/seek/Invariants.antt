@@ -1,4 +1,3 @@
-use Rattle.std.proofs.Common.{Decides}
 use Rattle.tasks.proofs.Checks.{Passed}
 use Rattle.tasks.proofs.task.checking.seek.Given as goal
 
