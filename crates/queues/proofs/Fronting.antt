@@ -1,4 +1,4 @@
--- A read_out into the first places of a list, as one into the whole list.
+-- A read-out into the first places of a list, as one into the whole list.
 use Rattle.std.proofs.Common.{◌≡◌, ℕ, ◌≤◌, min, List, ◌++◌, length, take, drop, Ok, Err, Result, sym, refl, ap, ◌∙◌, subst, arith}
 use Rattle.std.proofs.lemmas.List.{append_assoc, length-append, take-append-drop, drop-append-le}
 use Rattle.costs.specs.declared.tally.Tally.{Ghosts}

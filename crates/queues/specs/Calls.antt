@@ -51,7 +51,7 @@ pub record Replied {V : Type 0} (tally : Ghosts V) (b : Lent V) (call : Call) (b
   pub stays : Stays h later
   pub reply : Checked h.task → Reply tally b call before after h later told
 
--- a read_out into the first places of a list
+-- a read-out into the first places of a list
 abbrev pub ReadFront : {V : Type 0} → Ghosts V → Held V → ℕ → (before after : List ℕ) → Result ℕ Refusal → Type 0
 ReadFront tally h room before after r = MatchResult r
     (λ n. (l : List ℕ) × ReadInto before after l n × Answered tally (rules.read_out (min room (length before))) (rules.read l) h h)

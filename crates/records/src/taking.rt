@@ -1,5 +1,5 @@
 // One move taken from the choice: the record that it gives betters one of its set, or is added.
-ghost use Rattle.std.specs.Prelude.{◌≡◌, ◌+◌, ◌<◌, ◌≤◌, length, set, MatchResult};
+ghost use Rattle.std.specs.Prelude.{◌≡◌, ◌+◌, ◌<◌, ◌≤◌, length, MatchResult, slice_set};
 ghost use Rattle.theory.specs.Openings.{child};
 ghost use Rattle.theory.specs.Problem.{Problem};
 ghost use Rattle.records.specs.Entries.{lowered_of, LoweredAt, Entered};
@@ -84,7 +84,7 @@ fn add<V: Tally>(
     new: Record<V>,
 ) -> Result<u16, Full>
     requires { room ≤ length table.old }
-    ensures { MatchResult result (λ n. (count < room) × (n ≡ count + 1) × (table.new ≡ set table.old count new)) (λ f. (room ≤ count) × (f.count ≡ count) × (table.new ≡ table.old)) }
+    ensures { MatchResult result (λ n. (count < room) × (n ≡ count + 1) × (table.new ≡ slice_set table.old count new)) (λ f. (room ≤ count) × (f.count ≡ count) × (table.new ≡ table.old)) }
 {
     if count >= room {
         return Err(Full { count });

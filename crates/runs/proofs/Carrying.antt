@@ -1,5 +1,5 @@
 -- A run, opening by opening: what is left of the grant answers for the whole.
-use Rattle.std.proofs.Common.{◌≡◌, ℕ, suc, ◌+◌, ◌-◌, ◌<◌, ◌≤◌, false, List, length, take, Decides, sym, refl, ap, ◌∙◌, subst, subst₂, arith}
+use Rattle.std.proofs.Common.{◌≡◌, ℕ, suc, ◌+◌, ◌-◌, ◌<◌, ◌≤◌, false, List, length, Decides, sym, refl, subst, subst₂, arith}
 use mathlib.Core.Logic.{∥∥₁_elim}
 use Rattle.facts.specs.Sets.{Within}
 use Rattle.facts.proofs.Tests.{not_true_false}
@@ -7,20 +7,16 @@ use Rattle.tasks.specs.Tasks.{start_of}
 use Rattle.costs.specs.declared.tally.Tally.{Ghosts}
 use Rattle.theory.specs.Openings.{Opens, Overflows}
 use Rattle.theory.specs.Problem.{Problem}
-use Rattle.theory.specs.Promise.{shuts}
 use Rattle.theory.specs.Records.{Chosen, NoneWaits}
-use Rattle.theory.specs.Runs.{Trail, one_more, Outside, Runs, again, runs_out, finds, pauses, fills, goes_on}
+use Rattle.theory.specs.Runs.{Trail, one_more, Outside, Runs, runs_out, finds, pauses, fills, goes_on}
 use Rattle.theory.specs.declared.record.Record.{Record}
 use Rattle.theory.specs.declared.reply.End.{End}
 use Rattle.theory.specs.declared.reply.End.TheVariants.{Going, Planned, Exhausted, Filled}
-use Rattle.theory.specs.declared.reply.Kind.{Kind}
 use Rattle.theory.specs.declared.reply.Kind.TheVariants.{Pending, Plan, NoPlan, Full}
 use Rattle.theory.specs.declared.reply.Reply.{Reply}
 use Rattle.theory.proofs.Count.{waiting_shuts}
 use Rattle.theory.proofs.Order.{Laws}
 use Rattle.runs.specs.Trails.{Threads, Traced}
-use Rattle.runs.specs.Outcomes.{RunsTo}
-use Rattle.runs.specs.declared.stopping.Ran.{Ran}
 use Rattle.runs.proofs.Climbing.{found, thread_trail}
 use Rattle.runs.proofs.Threading.{opens_threads}
 

@@ -1,13 +1,12 @@
 -- A trail of bounded length can be looked for; so where one is known to exist, it can be had.
-use Rattle.std.proofs.Common.{◌≡◌, ℕ, zero, suc, ◌<◌, ◌≤◌, ◌⊎◌, List, [], ◌∷◌, length, sym, refl, subst, inl, inr, arith}
+use Rattle.std.proofs.Common.{◌≡◌, ℕ, zero, suc, ◌≤◌, ◌⊎◌, List, [], ◌∷◌, length, sym, refl, subst, inl, inr, arith}
 use mathlib.Core.Logic.{∥∥₁_elim}
 use native.Mathlib.Decide.{ℕ_discrete, dec_lt}
-use Rattle.tasks.specs.Places.{At}
 use Rattle.theory.specs.Runs.{Trail, root, up}
 use Rattle.theory.specs.declared.record.Record.{Record}
 use Rattle.theory.proofs.Places.{at_some}
 use Rattle.runs.specs.Trails.{Thread, top, up_to, Traced}
-use Rattle.runs.proofs.Trailing.{trail_step, trail_zero, trail_less}
+use Rattle.runs.proofs.Trailing.{trail_step, trail_less}
 
 module _ {V : Type 0} (recs : List (Record V)) where
   -- a trail of at most n moves

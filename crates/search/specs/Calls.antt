@@ -43,7 +43,7 @@ pub record ReadInto (before after l : List ℕ) (n : ℕ) : Type 0 where
   pub told : n ≡ length l
   pub written : after ≡ l ++ drop (length l) before
 
--- a read_out into a list: what it holds before and after
+-- a read-out into a list: what it holds before and after
 abbrev pub ReadAnswered : {V : Type 0} → Ghosts V → Held V → (before after : List ℕ) → Result ℕ Refusal → Type 0
 ReadAnswered tally h before after r = MatchResult r
     (λ n. (l : List ℕ) × ReadInto before after l n × Answered tally (read_out (length before)) (read l) h h)

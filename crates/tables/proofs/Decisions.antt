@@ -1,5 +1,5 @@
 -- Tests that decide.
-use Rattle.std.proofs.Common.{◌≡◌, ℕ, zero, suc, ◌+◌, ◌<◌, Bool, true, false, not, ◌&&◌, ◌||◌, T, eqb, ◌⊎◌, List, [], ◌∷◌, length, get_or, Some, Decides, sym, refl, subst, ⊎_elim, arith, eqb→eq}
+use Rattle.std.proofs.Common.{◌≡◌, ℕ, zero, suc, ◌+◌, ◌<◌, Bool, true, false, not, ◌&&◌, ◌||◌, T, eqb, List, [], ◌∷◌, length, get_or, Some, Decides, sym, refl, subst, ⊎_elim, arith, eqb→eq}
 use Rattle.std.proofs.lemmas.Bool.{cases_eq}
 use Rattle.facts.specs.Sets.{has, Within, Next}
 use Rattle.facts.specs.declared.sets.FactSet.{FactSet}

@@ -1,5 +1,5 @@
 -- What working out a table comes to.
-use Rattle.std.specs.Prelude.{◌≡◌, ℕ, ◌+◌, ◌*◌, ◌<◌, ◌≤◌, Bool, false, List, length, get_or, Some, None, Ok, Err, Option, Result, slice_index_or}
+use Rattle.std.specs.Prelude.{◌≡◌, ℕ, ◌+◌, ◌*◌, ◌<◌, ◌≤◌, Bool, false, List, length, Some, None, Ok, Err, Option, Result, slice_index_or}
 use Rattle.facts.specs.declared.sets.FactSet.{FactSet}
 use Rattle.tasks.specs.Tasks.{facts_of, Checked}
 use Rattle.tasks.specs.declared.task.Task.{Task}
@@ -48,7 +48,7 @@ WorksOutPairs tally t groups old new (Err short) = (length old < facts_of t * fa
 -- u is open, and no open place is less
 pub record Cheapest {V : Type 0} (tally : Ghosts V) (count : ℕ) (done : List Bool) (table : List (Estimate V)) (u : ℕ) : Type 0 where
   pub inside : u < count
-  pub undone : get_or done u false ≡ false
+  pub undone : slice_index_or done u false ≡ false
   pub least : (v : ℕ) → v < count → slice_index_or done v false ≡ false → NotAbove tally (slice_index_or table u Never) (slice_index_or table v Never)
 
 -- the choice of the next place; none if all open places are never

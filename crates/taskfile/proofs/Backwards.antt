@@ -11,7 +11,7 @@ use Rattle.taskfile.specs.declared.heading.Heading.{Heading}
 use Rattle.taskfile.specs.declared.keys.Key.{Key}
 use Rattle.taskfile.specs.declared.keys.Key.TheVariants.{Start, Goal, Group, Needs, Makes, Breaks}
 use Rattle.taskfile.specs.declared.misread.Misread.{Misread}
-use Rattle.taskfile.specs.Entries.{members, Short, Between, Good}
+use Rattle.taskfile.specs.Entries.{Short, Between, Good}
 use Rattle.taskfile.specs.Fronts.{AllGood}
 use Rattle.taskfile.specs.Keys.{one_number, highest}
 use Rattle.taskfile.specs.Outcomes.{Accepted, Outcome}

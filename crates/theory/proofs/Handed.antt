@@ -2,7 +2,6 @@
 use Rattle.std.proofs.Common.{◌≡◌, ℕ, List, sym, ◌∙◌}
 use Rattle.facts.specs.declared.sets.FactSet.{FactSet}
 use Rattle.tasks.specs.declared.moves.Move.{Move}
-use Rattle.tasks.specs.declared.task.Task.{Task}
 use Rattle.costs.specs.declared.tally.Tally.{Ghosts}
 use Rattle.theory.specs.Problem.{Problem, Lent}
 use Rattle.theory.specs.Openings.{LeadsTo, Takes, not_regressing, passed_over, bettered, no_better, shut_already, added}

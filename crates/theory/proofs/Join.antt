@@ -1,5 +1,5 @@
 -- Two runs one after the other do what one run with both grants does; so only the grant sum counts.
-use Rattle.std.proofs.Common.{◌≡◌, ℕ, ◌+◌, List, length, sym, refl, ap, ◌∙◌, subst, add_assoc, suc-add, zero-add, arith}
+use Rattle.std.proofs.Common.{◌≡◌, ℕ, ◌+◌, List, sym, refl, ap, ◌∙◌, subst, add_assoc, suc-add, zero-add, arith}
 use Rattle.costs.specs.declared.tally.Tally.{Ghosts}
 use Rattle.theory.specs.Problem.{Problem}
 use Rattle.theory.specs.Records.{First}

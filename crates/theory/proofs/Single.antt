@@ -207,7 +207,7 @@ module _ {V : Type 0} {tally : Ghosts V} {P : Problem tally} where
         })
   ]
 
-  -- a read_out that is refused, and one that is not
+  -- a read-out that is refused, and one that is not
   refusing : {recs : List (Record V)} {places : ℕ} {end : End} {why : Refusal} → ReadRefused recs places end why
       → ((other : Answer V) (then : State V) → Answers P (holding recs end) (read_out places) other then → (other ≡ refused why) × (then ≡ holding recs end))
       → OneAnswer P (holding recs end) (read_out places)

@@ -4,7 +4,7 @@ use Rattle.facts.specs.Sets.{Within}
 use Rattle.facts.specs.declared.sets.FactSet.{FactSet}
 use Rattle.tasks.specs.Lists.{Good}
 use Rattle.tasks.specs.Moves.{Regresses}
-use Rattle.tasks.specs.Places.{At, there}
+use Rattle.tasks.specs.Places.{At}
 use Rattle.tasks.specs.Tasks.{start_of, goal_of, moves_of}
 use Rattle.tasks.specs.declared.moves.Move.{Move}
 use Rattle.costs.specs.Lists.{charge_of, Costs}

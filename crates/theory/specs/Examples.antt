@@ -1,5 +1,5 @@
 -- A small task worked through by the rules: two moves, and a bound that knows nothing.
-use Rattle.std.specs.Prelude.{ℕ, ◌+◌, max, true, leb, List, [], ◌∷◌}
+use Rattle.std.specs.Prelude.{ℕ, ◌+◌, max, true, nat_le, List, [], ◌∷◌}
 use Rattle.facts.specs.declared.sets.FactSet.{FactSet}
 use Rattle.tasks.specs.declared.moves.Move.{Move}
 use Rattle.tasks.specs.declared.task.Task.{Task}
@@ -19,7 +19,7 @@ set_of n = record { word = n }
 
 -- costs as numbers, which are joined as given
 abbrev pub numbers : (ℕ → ℕ → ℕ) → Ghosts ℕ
-numbers join = record { at_most = leb; nil = 0; join = join; charge = λ price group. price }
+numbers join = record { at_most = nat_le; nil = 0; join = join; charge = λ price group. price }
 
 -- move 0 needs fact 0, makes fact 1 and breaks fact 0, at 15; move 1 makes fact 2, at 4
 abbrev pub two_moves : List Move

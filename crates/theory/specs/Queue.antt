@@ -14,12 +14,12 @@ use Rattle.theory.specs.declared.reply.End.{End}
 use Rattle.theory.specs.declared.reply.End.TheVariants.{Going, Planned, Exhausted, Filled}
 use Rattle.theory.specs.declared.reply.Reply.{Reply}
 
--- a run with a grant and a bound, or a read_out into a list of so many places
+-- a run with a grant and a bound, or a read-out into a list of so many places
 pub data Call (V : Type 0) : Type 0 where
   run : ℕ → Lent V → Call V
   read_out : ℕ → Call V
 
--- what a run tells, what a read_out writes into the front of the list, or why either is refused
+-- what a run tells, what a read-out writes into the front of the list, or why either is refused
 pub data Answer (V : Type 0) : Type 0 where
   ran : Reply V → Answer V
   read : List ℕ → Answer V
@@ -47,7 +47,7 @@ pub data RunRefused {V : Type 0} {tally : Ghosts V} (P : Problem tally) (n : ℕ
   grant_too_large : 65536 < n → RunRefused P n b GrantTooLarge
   bad_bound : {why : Refusal} → n ≤ 65536 → Unusable P b why → RunRefused P n b why
 
--- why a read_out is refused
+-- why a read-out is refused
 pub data ReadRefused {V : Type 0} (recs : List (Record V)) (places : ℕ) : End → Refusal → Type 0 where
   not_ended : ReadRefused recs places Going NotPlanned
   ended_with_none : ReadRefused recs places Exhausted NotPlanned

@@ -1,5 +1,5 @@
 -- A run: one constructor for each rule.
-use Rattle.std.specs.Prelude.{◌≡◌, ℕ, zero, suc, List, [], ◌∷◌, length, ◌≢◌}
+use Rattle.std.specs.Prelude.{ℕ, zero, suc, List, [], ◌∷◌, length, ◌≢◌}
 use Rattle.facts.specs.Sets.{Within}
 use Rattle.tasks.specs.Places.{At}
 use Rattle.tasks.specs.Tasks.{start_of}

@@ -1,4 +1,4 @@
-use Rattle.std.proofs.Common.{◌<◌, ◌≤◌, length, take, sym, refl, arith, leb-false, leb-true}
+use Rattle.std.proofs.Common.{◌<◌, sym, refl, arith, leb-false, leb-true}
 use Rattle.tasks.proofs.Places.{at_less}
 use Rattle.records.proofs.Places.{take_length}
 use Rattle.records.proofs.Entering.{as_it_was}

@@ -1,4 +1,3 @@
-use Rattle.std.proofs.Common.{refl, arith}
 use Rattle.theory.specs.Runs.{again}
 use Rattle.records.proofs.Entering.{as_it_was}
 use Rattle.runs.proofs.running.run.Goals as goal
