@@ -1,5 +1,5 @@
 -- Calls one after another: what stays, and what is noted.
-use Rattle.std.proofs.Common.{◌≡◌, ℕ, suc, ◌+◌, ◌<◌, ◌≤◌, List, [], ◌∷◌, length, drop, set, Ok, Err, Result, sym, refl, ap, ◌∙◌, subst, subst₂, add-one, arith}
+use Rattle.std.proofs.Common.{◌≡◌, ℕ, ◌+◌, ◌<◌, ◌≤◌, List, [], ◌∷◌, length, set, Ok, Err, Result, sym, refl, ap, ◌∙◌, subst, subst₂, add-one, arith}
 use Rattle.std.proofs.lemmas.List.{length-set, drop-set-lt}
 use Rattle.tasks.specs.Places.{At}
 use Rattle.tasks.specs.Tasks.{Checked}
@@ -15,7 +15,7 @@ use Rattle.records.proofs.Steps.{drop_further}
 use Rattle.search.specs.Calls.{Answered, answer_of, RunAnswered}
 use Rattle.search.specs.States.{table_of, state_of, problem_in}
 use Rattle.search.specs.declared.held.Held.{Held}
-use Rattle.queues.specs.Calls.{call_of, told_of, written_by, Reply, Stays, Replied, ReadFront, Follows, at_first, and_then, Log, blank, entry, written, Book, Noted}
+use Rattle.queues.specs.Calls.{call_of, told_of, written_by, Reply, Stays, Replied, ReadFront, at_first, and_then, Log, blank, entry, Book, Noted}
 use Rattle.queues.specs.declared.calls.Call.{Call}
 use Rattle.queues.specs.declared.calls.Call.TheVariants.{Run, ReadOut}
 use Rattle.queues.specs.declared.calls.Told.{Told}

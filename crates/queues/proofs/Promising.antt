@@ -1,5 +1,5 @@
 -- A book of calls on a new search is a queue of the rules, and so keeps the promises.
-use Rattle.std.proofs.Common.{◌≡◌, ℕ, zero, ◌≤◌, min, ◌⊎◌, List, [], ◌∷◌, length, take, Some, None, Option, sym, refl, ap, ◌∙◌, subst, subst₂, inl, inr, arith, length-take}
+use Rattle.std.proofs.Common.{◌≡◌, ℕ, ◌≤◌, min, ◌⊎◌, List, ◌∷◌, length, take, Some, None, Option, sym, refl, ap, ◌∙◌, subst, subst₂, inl, inr, arith, length-take}
 use Rattle.tasks.specs.Places.{At, here, there}
 use Rattle.tasks.specs.Tasks.{Checked}
 use Rattle.tasks.specs.declared.task.Task.{Task}
@@ -20,8 +20,8 @@ use Rattle.theory.proofs.Single.{only_sum_counts}
 use Rattle.theory.proofs.Told.{trail_same}
 use Rattle.records.proofs.Steps.{drop_further}
 use Rattle.runs.specs.Trails.{Sane}
-use Rattle.search.specs.Calls.{Made, PastRecords}
-use Rattle.search.specs.States.{state_by, table_of, state_of, problem_in}
+use Rattle.search.specs.Calls.{Made}
+use Rattle.search.specs.States.{state_by, table_of, state_of}
 use Rattle.search.specs.declared.held.Held.{Held}
 use Rattle.search.proofs.Answering.{plan_traced}
 use Rattle.queues.specs.Calls.{call_of, Follows, at_first, and_then, Log, blank, entry, Book, Serves}

@@ -7,7 +7,6 @@ use Rattle.theory.specs.Problem.{Problem, Lent}
 use Rattle.theory.specs.Promise.{records_of}
 use Rattle.theory.specs.Queue as rules
 use Rattle.theory.specs.Queue.{Answer, Answers, State, Event, asked}
-use Rattle.theory.specs.declared.record.Record.{Record}
 use Rattle.theory.specs.declared.refusal.Refusal.{Refusal}
 use Rattle.search.specs.Calls.{PastRecords, Answered, ReadInto}
 use Rattle.search.specs.States.{table_of, state_of, problem_in}

@@ -4,7 +4,7 @@ use Rattle.tasks.specs.Tasks.{Checked}
 use Rattle.costs.specs.declared.tally.Tally.{Ghosts}
 use Rattle.theory.specs.Problem.{Problem, Lent, Honest}
 use Rattle.theory.specs.Promise.{records_of}
-use Rattle.theory.specs.Queue.{Call, run, read_out, Answer, ran, read, refused, State, Makes, Answers}
+use Rattle.theory.specs.Queue.{Call, run, read_out, Answer, ran, read, refused, Makes, Answers}
 use Rattle.theory.specs.declared.record.Record.{Record}
 use Rattle.theory.specs.declared.refusal.Refusal.{Refusal}
 use Rattle.theory.specs.declared.reply.Reply.{Reply}

@@ -1,4 +1,4 @@
-use Rattle.std.proofs.Common.{take, drop, refl, ap, ◌∙◌}
+use Rattle.std.proofs.Common.{take, drop, ap, ◌∙◌}
 use native.Mathlib.Nat.{sub-zero}
 use Rattle.queues.proofs.Fronting.{front_read}
 use Rattle.queues.proofs.answering.read_front.Goals as goal
