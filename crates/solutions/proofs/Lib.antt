@@ -1,2 +1,3 @@
 mod Announced
 mod Commas
+mod Fronts
