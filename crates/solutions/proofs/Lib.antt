@@ -1,3 +1,9 @@
 mod Announced
 mod Commas
 mod Fronts
+mod Working
+mod Ended
+mod Laws
+mod Bounding
+mod Telling
+mod Asking

@@ -1,17 +1,19 @@
 // The search that the program makes: minutes, the pair table of all groups, 1,024 records and as many openings.
 ghost use Rattle.std.specs.Prelude.{◌≡◌, ◌≤◌, length};
-ghost use Rattle.solutions.specs.Solutions.{Found};
+ghost use Rattle.tasks.specs.Tasks.{Checked};
+ghost use Rattle.tables.specs.Equation.{setting_of};
+ghost use Rattle.tables.specs.Worked.{PairsTable};
+ghost use Rattle.solutions.specs.Solutions.{Found, Solved, minutes};
 
 use costs::{Estimate, Minutes, Tally};
 use facts::FactSet;
 use queues::{Call, Told, queue};
 use tables::{Pair, work_out_pair};
 use taskfile::Heading;
-use tasks::{Fault, Move, check};
+use tasks::{Fault, Move, Task, check};
 use theory::{Mark, Record, Refusal, Reply};
 
 // What the search tells of the task of a heading and its moves, or the first fault; the moves of a plan come into the front of the list.
-// The moves come by value, so that they, the pair table and the bound that reads both live equally long.
 pub fn find(
     heading: Heading,
     moves: [Move; 1024],
@@ -25,16 +27,35 @@ pub fn find(
         unreachable()
     };
     let task = check(draft)?;
+    Ok(search(task, list))
+}
+
+// What the search tells of a checked task.
+fn search(task: Task<'_>, list: &mut [u16]) -> Reply<Minutes>
+    requires checked { Checked task }
+    requires room { length list.old ≡ 1024 }
+    ensures { Solved task.entry list.old list.new result }
+{
     let mut pairs = [Estimate::<Minutes>::Never; 4096];
     let _ = work_out_pair(&task, 255, &mut pairs);
-    let bound = Pair::of(&task, 255, &pairs);
+    search_by(task, &pairs, list)
+}
+
+// The same by the pair table of the task.
+fn search_by(task: Task<'_>, pairs: &[Estimate<Minutes>], list: &mut [u16]) -> Reply<Minutes>
+    requires checked { Checked task }
+    requires worked { PairsTable minutes (setting_of task 255) pairs.now }
+    requires room { length list.old ≡ 1024 }
+    ensures { Solved task.entry list.old list.new result }
+{
+    let bound = Pair::of(&task, 255, pairs);
     let mut table = [blank(); 1024];
     let mut told = [Told::Refused(Refusal::NotPlanned); 2];
     let calls = [Call::Run(1024), Call::ReadOut(1024)];
     let _ = queue(task, &bound, &mut table, &calls, &mut told, list);
     let first = told[0];
     match first {
-        Told::Ran(reply) => Ok(reply),
+        Told::Ran(reply) => reply,
         _ => unreachable(),
     }
 }

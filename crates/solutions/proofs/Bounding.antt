@@ -1,0 +1,51 @@
+-- The bound over a pair table that was worked out for a task can be used on that task.
+use Rattle.std.proofs.Common.{◌≡◌, ℕ, true, ◌&&◌, List, sym, refl, subst₂}
+use Rattle.facts.specs.declared.sets.FactSet.{FactSet}
+use Rattle.tasks.specs.Tasks.{facts_of}
+use Rattle.tasks.specs.declared.task.Task.{Task}
+use Rattle.costs.specs.declared.estimate.Estimate.{Estimate}
+use Rattle.costs.specs.declared.minutes.Minutes.{Minutes}
+use Rattle.bounds.specs.Sound.{Overdrawn}
+use Rattle.tables.specs.Equation.{Setting, setting_of, Greatest}
+use Rattle.tables.specs.Fitting.{is_same_task, keeps_pair}
+use Rattle.tables.specs.Reading.{place_of_pair, estimate_by_pairs, share_at}
+use Rattle.tables.specs.Worked.{PairsTable}
+use Rattle.tables.proofs.Cells.{pair_outside}
+use Rattle.tables.proofs.Closing.{shares_are_drawn}
+use Rattle.tables.proofs.KeepingPairs.{pair_told}
+use Rattle.theory.specs.Problem.{Lent}
+use Rattle.solutions.specs.Solutions.{minutes}
+use Rattle.solutions.proofs.Laws.{minutes_laws}
+
+-- what is seen of the bound over a table
+abbrev pub seen : Setting → List (Estimate Minutes) → Task → Lent Minutes
+seen b table t = record {
+  fits = is_same_task b t && keeps_pair minutes b (place_of_pair b.facts table);
+  estimate = λ s. estimate_by_pairs minutes (place_of_pair b.facts table) s;
+  share = λ k. share_at minutes b.groups b.moves k;
+}
+
+-- a bound that can be used, with the greatest estimates at pairs
+pub record Useful (t : Task) (groups : ℕ) (b : Lent Minutes) : Type 0 where
+  pub est : FactSet → Estimate Minutes
+  pub greatest : Greatest minutes (setting_of t groups) 2 est
+  pub estimates : (s : FactSet) → b.estimate s ≡ est s
+  pub fits : b.fits ≡ true
+  pub drawn : Overdrawn minutes t b.share → ⊥
+
+useful_table : (t : Task) (groups : ℕ) (table : List (Estimate Minutes)) → PairsTable minutes (setting_of t groups) table
+    → Useful t groups (seen (setting_of t groups) table t)
+useful_table t groups table worked =
+    let b = setting_of t groups in record {
+      est = worked.est;
+      greatest = worked.greatest;
+      estimates = worked.reads;
+      fits = sym (pair_told minutes_laws b (place_of_pair b.facts table) (pair_outside b.facts table) t true true true refl
+          ((λ e. record { facts = refl; start = refl; moves = refl }), λ s. refl)
+          ((λ e. worked.rules), λ r. refl));
+      drawn = shares_are_drawn minutes_laws t groups;
+    }
+
+pub useful : (t : Task) (groups : ℕ) (table : List (Estimate Minutes)) → PairsTable minutes (setting_of t groups) table
+    → (b : Setting) (read : List (Estimate Minutes)) → b ≡ setting_of t groups → read ≡ table → Useful t groups (seen b read t)
+useful t groups table worked b read from same = subst₂ (λ s l. Useful t groups (seen s l t)) (sym from) (sym same) (useful_table t groups table worked)
