@@ -1,5 +1,5 @@
 -- What the queue of the program's two calls comes to.
-use Rattle.std.proofs.Common.{◌≡◌, ℕ, zero, suc, min, List, [], ◌∷◌, ◌++◌, length, get_or, drop, refl, sym, ap, ◌∙◌, subst}
+use Rattle.std.proofs.Common.{◌≡◌, ℕ, zero, suc, min, List, [], ◌∷◌, length, get_or, refl, ap, ◌∙◌, subst}
 use Rattle.tasks.specs.Places.{At, here, there}
 use Rattle.tasks.specs.declared.task.Task.{Task}
 use Rattle.tasks.proofs.Places.{at_same, at_less, at_get}

@@ -1,7 +1,6 @@
 -- The bound over a pair table that was worked out for a task can be used on that task.
 use Rattle.std.proofs.Common.{◌≡◌, ℕ, true, ◌&&◌, List, sym, refl, subst₂}
 use Rattle.facts.specs.declared.sets.FactSet.{FactSet}
-use Rattle.tasks.specs.Tasks.{facts_of}
 use Rattle.tasks.specs.declared.task.Task.{Task}
 use Rattle.costs.specs.declared.estimate.Estimate.{Estimate}
 use Rattle.costs.specs.declared.minutes.Minutes.{Minutes}

@@ -1,18 +1,16 @@
 -- What a run with a grant for all records tells, and what is read out after it.
-use Rattle.std.proofs.Common.{◌≡◌, ℕ, ◌+◌, ◌<◌, ◌≤◌, true, false, List, [], ◌∷◌, ◌++◌, length, drop, refl, sym, ap, ◌∙◌, subst, inr, arith}
-use Rattle.tasks.specs.Lists.{Good}
+use Rattle.std.proofs.Common.{◌≡◌, ℕ, ◌≤◌, List, [], ◌∷◌, ◌++◌, length, drop, refl, ap, ◌∙◌, subst, inr, arith}
 use Rattle.tasks.specs.Places.{At, here, there}
 use Rattle.tasks.specs.declared.task.Task.{Task}
 use Rattle.costs.specs.declared.minutes.Minutes.{Minutes}
-use Rattle.theory.specs.Problem.{Problem, Lent, Usable, Roomy}
+use Rattle.theory.specs.Problem.{Problem, Lent, Usable}
 use Rattle.theory.specs.Promise.{Promises}
-use Rattle.theory.specs.Queue.{Call, run, read_out, Answer, ran, read, refused, State, kept, holding, Unusable, misfit, overdrawn, Makes, no_place, too_many_places, bad_bound, fresh, RunRefused, grant_too_large, bad_bound as bad_handed, ReadRefused, not_ended, ended_with_none, ended_with_full, list_too_short, Answers, still_kept, runs, run_refused, reads, read_refused, Event, asked, Queue, made, and_call}
+use Rattle.theory.specs.Queue.{Call, run, read_out, Answer, ran, read, refused, State, holding, Unusable, misfit, overdrawn, Makes, no_place, too_many_places, bad_bound, fresh, grant_too_large, bad_bound as bad_handed, ReadRefused, not_ended, ended_with_none, ended_with_full, list_too_short, Answers, runs, run_refused, reads, read_refused, Event, asked, Queue, made, and_call}
 use Rattle.theory.specs.Runs.{Trail}
 use Rattle.theory.specs.declared.record.Record.{Record}
 use Rattle.theory.specs.declared.refusal.Refusal.{Refusal}
 use Rattle.theory.specs.declared.reply.End.{End}
 use Rattle.theory.specs.declared.reply.End.TheVariants.{Going, Planned}
-use Rattle.theory.specs.declared.reply.Kind.TheVariants.{Pending, Plan, NoPlan, Full}
 use Rattle.theory.specs.declared.reply.Reply.{Reply}
 use Rattle.queues.specs.Calls.{written}
 use Rattle.solutions.specs.Solutions.{minutes, Says, cheapest, no_list, no_room}

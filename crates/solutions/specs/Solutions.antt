@@ -17,8 +17,8 @@ use Rattle.taskfile.specs.Headings.{DraftOf}
 use Rattle.taskfile.specs.declared.heading.Heading.{Heading}
 use Rattle.tables.specs.Equation.{setting_of, Greatest}
 use Rattle.theory.specs.Meets.{MeetsMore}
-use Rattle.theory.specs.Problem.{Problem, Lent}
-use Rattle.theory.specs.Queue.{run, read_out, Answer, ran, State, Event, asked, Queue}
+use Rattle.theory.specs.Problem.{Lent}
+use Rattle.theory.specs.Queue.{run, read_out, Answer, ran, State, asked, Queue}
 use Rattle.theory.specs.declared.reply.Kind.TheVariants.{Plan, NoPlan, Full}
 use Rattle.theory.specs.declared.reply.Reply.{Reply}
 
