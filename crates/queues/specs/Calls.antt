@@ -85,7 +85,7 @@ pub record Noted {V : Type 0} (n : ℕ) (before after : List (Told V)) : Type 0 
   pub size : length after ≡ length before
   pub rest : drop n after ≡ drop n before
 
--- as many calls were made as there are places for their replies
+-- all calls were made, or the first of them, where there are fewer places for their replies
 pub record Serves {V : Type 0} (tally : Ghosts V) (b : Lent V) (calls : List Call) (told told' : List (Told V)) (list list' : List ℕ) (h later : Held V) : Type 0 where
   pub stays : Stays h later
   pub noted : Noted (min (length calls) (length told)) told told'

@@ -29,7 +29,7 @@ pub record Judged {V : Type 0} (tally : Ghosts V) (task : Task) (b : Lent V) (r 
   pub sound : SoundOn tally task b
   pub tells : Checked task → (P : Problem tally) → P.task ≡ task → MatchOption r (Usable P b) (Unusable P b)
 
--- whether a search can be made over so many places, or why not: their number is looked at first
+-- whether a search can be made over so many places, or why not: a wrong number of them is told before a fault of the bound
 pub data SizedUp {V : Type 0} (tally : Ghosts V) (task : Task) (b : Lent V) (places : ℕ) : Option Refusal → Type 0 where
   no_place : places ≡ 0 → SizedUp tally task b places (Some TableSize)
   too_many : 65535 < places → SizedUp tally task b places (Some TableSize)

@@ -1,4 +1,4 @@
--- What the program prints for the bytes that it is handed.
+-- What a program that searches prints for the bytes that it is handed.
 use Rattle.std.specs.Prelude.{◌≡◌, ℕ, List, length, Ok, Err}
 use Rattle.tasks.specs.Faults.{Faultless, FirstFault}
 use Rattle.tasks.specs.Refusals.{number_of as fault_number}

@@ -1,4 +1,4 @@
--- What the search of the program finds for a task.
+-- What the search of such a program finds for a task.
 use Rattle.std.specs.Prelude.{◌≡◌, ℕ, true, T, List, [], ◌∷◌, ◌++◌, length, drop, Result, MatchResult}
 use Rattle.facts.specs.declared.sets.FactSet.{FactSet}
 use Rattle.tasks.specs.Lists.{Good}

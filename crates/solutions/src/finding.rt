@@ -1,4 +1,4 @@
-// The search that the program makes: minutes, the pair table of all groups, 1,024 records and as many openings.
+// The search that such a program makes: minutes, the pair table of all groups, 1,024 records and as many openings.
 ghost use Rattle.std.specs.Prelude.{◌≡◌, ◌≤◌, length};
 ghost use Rattle.tasks.specs.Tasks.{Checked};
 ghost use Rattle.tables.specs.Equation.{setting_of};

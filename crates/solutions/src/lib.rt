@@ -1,4 +1,4 @@
-// What the program prints, as text: each function says which bytes it makes.
+// What a program that searches prints, as text: each function says which bytes it makes.
 #![tactic(auto)]
 
 mod finding;

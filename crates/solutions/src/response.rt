@@ -1,4 +1,4 @@
-// The whole program, from the bytes that it is handed to the text that it prints.
+// A whole program that searches, from the bytes that it is handed to the text that it prints.
 ghost use Rattle.std.specs.Prelude.{◌≡◌, ◌≤◌, IfOk, string_bytes};
 ghost use Rattle.tasks.specs.declared.draft.Draft.{Draft};
 ghost use Rattle.taskfile.specs.Headings.{DraftOf};
