@@ -1,101 +1,103 @@
 -- The lines of a heading, and those of a move, as far as they are read.
 use Rattle.std.proofs.Common.{◌≡◌, ℕ, ◌<◌, ◌≤◌, [], ◌∷◌, sym, refl, ap, ◌∙◌, subst, arith}
 use Rattle.facts.specs.declared.sets.FactSet.{FactSet}
-use Rattle.taskfile.specs.declared.keys.Key.TheVariants.{Facts, Moves, Group, Price}
+use Rattle.taskfile.specs.declared.keys.Key.{Key}
+use Rattle.taskfile.specs.declared.keys.Key.TheVariants.{Facts, Moves, Group}
 use Rattle.taskfile.specs.declared.misread.Misread.{Misread}
 use Rattle.taskfile.specs.declared.reader.Reader.{Reader}
-use Rattle.taskfile.specs.Entries.{number, members}
+use Rattle.taskfile.specs.Entries.{Entry, number, members, Fits}
 use Rattle.taskfile.specs.Faults.{Faulty}
 use Rattle.taskfile.specs.Keys.{after}
-use Rattle.taskfile.specs.Steps.{TooMany, TookNumber, TookSet, Stops, TookAll, StopsBefore, TookHeading, TookMove}
-use Rattle.taskfile.specs.Tellings.{heading}
-use Rattle.taskfile.proofs.Fronting.{one, all_then, all_stops, stops_now, stops_here, fits_other, facts_other, group_other, price_other}
+use Rattle.taskfile.specs.Steps.{TooMany, TookAs, Stops, TookAll, StopsBefore, TookHeading, TookMove}
+use Rattle.taskfile.specs.Tellings.{TellsNumber, TellsSet, heading}
+use Rattle.taskfile.proofs.Fronting.{one, all_then, took_none, and_one, stops_here, stops_now}
 
--- a set's line always fits
-one_set : (room : ℕ) (a b : Reader) (s : FactSet) (t : TookSet a s b) → TookAll room a (members t.0 ∷ []) b
-one_set room a b s t = one room a b (members t.0) t.2 tt
+fits_count : (room : ℕ) (k : Key) (c : ℕ) (e : Entry) → TellsNumber c e → c ≤ room → Fits room k e
+fits_count room k c (number n) t h = λ _. omega (arith, t)
+fits_count room k c (members ns) t h = absurd t
 
-module _ (room : ℕ) (a b : Reader) (key : a.expected ≡ Facts) (f : ℕ) (t₁ : TookNumber a f b) where
-  heading_one : TookAll room a (number f ∷ []) b
-  heading_one = one room a b (number f) t₁ (fits_other room a.expected Facts f key facts_other)
+fits_no_more : (room : ℕ) (k : Key) (c : ℕ) (e : Entry) → TellsNumber c e → k ≡ Moves → room < c → Fits room k e → ⊥
+fits_no_more room k c (number n) t key h fits = let q = fits key in omega (arith, t)
+fits_no_more room k c (members ns) t key h fits = t
+
+-- the first line
+pub stops_first : (room most : ℕ) (a : Reader) (m : Misread) → Stops a m → 0 < most → StopsBefore room a most m
+stops_first room most a m s h = stops_now room a a a.expected refl [] (took_none room a) most m s h
+
+module _ (room : ℕ) (a b : Reader) (key : a.expected ≡ Facts) (f : ℕ) (t₁ : TookAs TellsNumber a f b) where
+  heading_one : TookAll room a (t₁.0 ∷ []) b
+  heading_one = and_one room a a Facts key [] (took_none room a) b t₁.0 t₁.2 (λ e. cc)
 
   second_key : b.expected ≡ Moves
-  second_key = t₁.moved.next ∙ ap after key
+  second_key = t₁.2.moved.next ∙ ap after key
 
   pub stops_second : (m : Misread) → Stops b m → StopsBefore room a 4 m
-  stops_second m s = (number f ∷ [], all_stops room a b 3 m (number f ∷ []) [] heading_one (stops_now room 3 b m s (omega arith)))
+  stops_second m s = stops_now room a b Facts key _ heading_one 4 m s (omega arith)
 
-  module _ (d : Reader) (c : ℕ) (t₂ : TookNumber b c d) where
+  module _ (d : Reader) (c : ℕ) (t₂ : TookAs TellsNumber b c d) where
     pub stops_full : (m : Misread) → a.line ≡ 1 → room < c → TooMany m → StopsBefore room a 4 m
-    stops_full m l h t = (
-      number f ∷ [],
-      all_stops room a b 3 m (number f ∷ []) [] heading_one
-          (stops_here room 3 b m
-          (subst (Faulty room b.expected b.rest.now) (sym t.flaw) (number c, (d.rest.now, t₂.text), t₂.formed, t₂.inside, λ fits. let q = fits second_key in omega arith))
-          (omega (arith, t.line, t₁.moved.count)) (omega arith)),
-    )
+    stops_full m l h t =
+        stops_here room a b Facts key _ heading_one 4 m
+        (subst (Faulty room b.expected b.rest.now) (sym t.flaw) (t₂.0, (d.rest.now, t₂.2.text), t₂.2.formed, t₂.2.inside, fits_no_more room b.expected c t₂.0 t₂.1 second_key h))
+        (omega (arith, t.line, t₁.2.moved.count)) (omega arith)
 
     module _ (fit : c ≤ room) where
-      heading_two : TookAll room a (number f ∷ number c ∷ []) d
-      heading_two = all_then room a b d (number f ∷ []) (number c ∷ []) heading_one (one room b d (number c) t₂ (λ _. fit))
+      heading_two : TookAll room a (t₁.0 ∷ t₂.0 ∷ []) d
+      heading_two = all_then room a b d _ (t₂.0 ∷ []) heading_one (one room b d t₂.0 t₂.2 (fits_count room b.expected c t₂.0 t₂.1 fit))
 
       pub stops_third : (m : Misread) → Stops d m → StopsBefore room a 4 m
-      stops_third m s = (_, all_stops room a d 2 m _ [] heading_two (stops_now room 2 d m s (omega arith)))
+      stops_third m s = stops_now room a d Facts key _ heading_two 4 m s (omega arith)
 
-      module _ (u : Reader) (start : FactSet) (t₃ : TookSet d start u) where
-        heading_three : TookAll room a (number f ∷ number c ∷ members t₃.0 ∷ []) u
-        heading_three = all_then room a d u _ _ heading_two (one_set room d u start t₃)
+      module _ (u : Reader) (start : FactSet) (t₃ : TookAs TellsSet d start u) where
+        heading_three : TookAll room a (t₁.0 ∷ t₂.0 ∷ t₃.0 ∷ []) u
+        heading_three = and_one room a d Facts key _ heading_two u t₃.0 t₃.2 (λ e. cc)
 
         pub stops_fourth : (m : Misread) → Stops u m → StopsBefore room a 4 m
-        stops_fourth m s = (_, all_stops room a u 1 m _ [] heading_three (stops_now room 1 u m s (omega arith)))
+        stops_fourth m s = stops_now room a u Facts key _ heading_three 4 m s (omega arith)
 
-        pub heading_whole : (v : Reader) (goal : FactSet) → TookSet u goal v → TookHeading room a (record { facts = f; count = c; start = start; goal = goal }) v
+        pub heading_whole : (v : Reader) (goal : FactSet) → TookAs TellsSet u goal v → TookHeading room a (record { facts = f; count = c; start = start; goal = goal }) v
         heading_whole v goal t₄ = (
-          number f ∷ number c ∷ members t₃.0 ∷ members t₄.0 ∷ [],
-          heading refl refl t₃.1 t₄.1,
+          t₁.0 ∷ t₂.0 ∷ t₃.0 ∷ t₄.0 ∷ [],
+          heading t₁.1 t₂.1 t₃.1 t₄.1,
           refl,
-          all_then room a u v _ _ heading_three (one_set room u v goal t₄),
+          and_one room a u Facts key _ heading_three v t₄.0 t₄.2 (λ e. cc),
         )
 
-module _ (room : ℕ) (a b : Reader) (key : a.expected ≡ Group) (g : ℕ) (t₁ : TookNumber a g b) where
-  move_one : TookAll room a (number g ∷ []) b
-  move_one = one room a b (number g) t₁ (fits_other room a.expected Group g key group_other)
+module _ (room : ℕ) (a b : Reader) (key : a.expected ≡ Group) (g : ℕ) (t₁ : TookAs TellsNumber a g b) where
+  move_one : TookAll room a (t₁.0 ∷ []) b
+  move_one = and_one room a a Group key [] (took_none room a) b t₁.0 t₁.2 (λ e. cc)
 
   pub stops_price : (m : Misread) → Stops b m → StopsBefore room a 5 m
-  stops_price m s = (_, all_stops room a b 4 m _ [] move_one (stops_now room 4 b m s (omega arith)))
+  stops_price m s = stops_now room a b Group key _ move_one 5 m s (omega arith)
 
-  module _ (d : Reader) (p : ℕ) (t₂ : TookNumber b p d) where
-    move_two : TookAll room a (number g ∷ number p ∷ []) d
-    move_two = all_then room a b d _ _ move_one (one room b d (number p) t₂ (fits_other room b.expected Price p (t₁.moved.next ∙ ap after key) price_other))
+  module _ (d : Reader) (p : ℕ) (t₂ : TookAs TellsNumber b p d) where
+    move_two : TookAll room a (t₁.0 ∷ t₂.0 ∷ []) d
+    move_two = and_one room a b Group key _ move_one d t₂.0 t₂.2 (λ e. cc)
 
     pub stops_needs : (m : Misread) → Stops d m → StopsBefore room a 5 m
-    stops_needs m s = (_, all_stops room a d 3 m _ [] move_two (stops_now room 3 d m s (omega arith)))
+    stops_needs m s = stops_now room a d Group key _ move_two 5 m s (omega arith)
 
-    module _ (u : Reader) (needs : FactSet) (t₃ : TookSet d needs u) where
-      move_three : TookAll room a (number g ∷ number p ∷ members t₃.0 ∷ []) u
-      move_three = all_then room a d u _ _ move_two (one_set room d u needs t₃)
+    module _ (u : Reader) (needs : FactSet) (t₃ : TookAs TellsSet d needs u) where
+      move_three : TookAll room a (t₁.0 ∷ t₂.0 ∷ t₃.0 ∷ []) u
+      move_three = and_one room a d Group key _ move_two u t₃.0 t₃.2 (λ e. cc)
 
       pub stops_makes : (m : Misread) → Stops u m → StopsBefore room a 5 m
-      stops_makes m s = (_, all_stops room a u 2 m _ [] move_three (stops_now room 2 u m s (omega arith)))
+      stops_makes m s = stops_now room a u Group key _ move_three 5 m s (omega arith)
 
-      module _ (v : Reader) (makes : FactSet) (t₄ : TookSet u makes v) where
-        move_four : TookAll room a (number g ∷ number p ∷ members t₃.0 ∷ members t₄.0 ∷ []) v
-        move_four = all_then room a u v _ _ move_three (one_set room u v makes t₄)
+      module _ (v : Reader) (makes : FactSet) (t₄ : TookAs TellsSet u makes v) where
+        move_four : TookAll room a (t₁.0 ∷ t₂.0 ∷ t₃.0 ∷ t₄.0 ∷ []) v
+        move_four = and_one room a u Group key _ move_three v t₄.0 t₄.2 (λ e. cc)
 
         pub stops_breaks : (m : Misread) → Stops v m → StopsBefore room a 5 m
-        stops_breaks m s = (_, all_stops room a v 1 m _ [] move_four (stops_now room 1 v m s (omega arith)))
+        stops_breaks m s = stops_now room a v Group key _ move_four 5 m s (omega arith)
 
-        pub move_whole : (w : Reader) (breaks : FactSet) → TookSet v breaks w → TookMove room a (record { group = g; price = p; needs = needs; makes = makes; breaks = breaks }) w
+        pub move_whole : (w : Reader) (breaks : FactSet) → TookAs TellsSet v breaks w → TookMove room a (record { group = g; price = p; needs = needs; makes = makes; breaks = breaks }) w
         move_whole w breaks t₅ = (
-          number g,
-          number p,
-          members t₃.0,
-          members t₄.0,
-          members t₅.0,
-          record { group = refl; price = refl; needs = t₃.1; makes = t₄.1; breaks = t₅.1 },
-          all_then room a v w _ _ move_four (one_set room v w breaks t₅),
+          t₁.0,
+          t₂.0,
+          t₃.0,
+          t₄.0,
+          t₅.0,
+          record { group = t₁.1; price = t₂.1; needs = t₃.1; makes = t₄.1; breaks = t₅.1 },
+          and_one room a v Group key _ move_four w t₅.0 t₅.2 (λ e. cc),
         )
-
--- the heading's lines are the first four
-pub stops_first : (room most : ℕ) (a : Reader) (m : Misread) → Stops a m → 0 < most → StopsBefore room a most m
-stops_first room most a m s h = ([], stops_now room most a m s h)

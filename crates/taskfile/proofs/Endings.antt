@@ -32,12 +32,10 @@ headed h (f ∷ c ∷ s ∷ []) fs t l = elim t [ ]
 -- what is known of the reader after the heading
 pub record Ready (room : ℕ) (h : Heading) (b : Reader) : Type 0 where
   pub key : b.expected ≡ Group
-  pub line : b.line ≡ 5
-  pub count : h.count ≤ 1024
   pub fits : h.count ≤ room
 
-second_good : (room : ℕ) (h : Heading) (es : List Entry) → TellsHeading h es → AllGood room Facts es → (h.count ≤ 1024) × (h.count ≤ room)
-second_good room h (f ∷ number c ∷ s ∷ g ∷ es) (heading tf tc ts tg) good = (omega (arith, tc, good.1.0.inside.1), omega (arith, tc, good.1.0.fits refl))
+second_good : (room : ℕ) (h : Heading) (es : List Entry) → TellsHeading h es → AllGood room Facts es → h.count ≤ room
+second_good room h (f ∷ number c ∷ s ∷ g ∷ es) (heading tf tc ts tg) good = omega (arith, tc, good.1.0.fits refl)
 second_good room h (f ∷ members c ∷ s ∷ g ∷ es) (heading tf tc ts tg) good = absurd tc
 second_good room h [] t good = elim t [ ]
 second_good room h (f ∷ []) t good = elim t [ ]
@@ -52,15 +50,11 @@ four_keys (_ ∷ _ ∷ _ ∷ []) l = absurd (omega arith)
 four_keys (_ ∷ _ ∷ _ ∷ _ ∷ []) l = refl
 four_keys (_ ∷ _ ∷ _ ∷ _ ∷ _ ∷ es) l = absurd (omega arith)
 
-pub ready : (room : ℕ) (a b : Reader) (h : Heading) → a.expected ≡ Facts → a.line ≡ 1 → TookHeading room a h b → Ready room h b
-ready room a b h key line (es, tells, l, all) =
-    let good = second_good room h es tells (subst (λ k. AllGood room k es) key all.front.good) in
-    record {
-      key = all.next ∙ ap (λ k. key_from k es) key ∙ four_keys es l;
-      line = omega (arith, all.count);
-      count = good.0;
-      fits = good.1;
-    }
+pub ready : (room : ℕ) (a b : Reader) (h : Heading) → a.expected ≡ Facts → TookHeading room a h b → Ready room h b
+ready room a b h key (es, tells, l, all) = record {
+  key = all.next ∙ ap (λ k. key_from k es) key ∙ four_keys es l;
+  fits = second_good room h es tells (subst (λ k. AllGood room k es) key all.front.good);
+}
 
 module _ (a : Reader) (before : List Move) (key : a.expected ≡ Facts) (line : a.line ≡ 1) where
   front_at : (es : List Entry) (rest : List ℕ) → Front (length before) a.expected a.rest.now es rest → Front (length before) Facts a.rest.now es rest
@@ -80,7 +74,7 @@ module _ (a : Reader) (before : List Move) (key : a.expected ≡ Facts) (line : 
   }
 
   module _ (b : Reader) (h : Heading) (t : TookHeading (length before) a h b) where
-    pub refused_moves : (after : List Move) (m : Misread) → StopsWriting h.count b before after m → Refused a.rest.now before m after
+    pub refused_moves : (after : List Move) (m : Misread) → StopsWriting (length before) h.count b before after m → Refused a.rest.now before m after
     refused_moves after m (fs, w, s) =
         let u = all_stops (length before) a b (5 * h.count) m t.0 fs t.3 s in
         let d = headed h t.0 fs t.1 t.2 in
@@ -93,7 +87,7 @@ module _ (a : Reader) (before : List Move) (key : a.expected ≡ Facts) (line : 
           moves = subst (λ x. Written x before after) (sym d.others) w;
         }
 
-    module _ (d : Reader) (after : List Move) (u : TookMoves h.count b before after d) where
+    module _ (d : Reader) (after : List Move) (u : TookMoves (length before) h.count b before after d) where
       all_lines : TookAll (length before) a (t.0 ++ u.0) d
       all_lines = all_then (length before) a b d t.0 u.0 t.3 u.3
 

@@ -1,30 +1,20 @@
 -- Lines, as the reader takes them.
-use Rattle.std.specs.Prelude.{◌≡◌, ℕ, ◌+◌, ◌*◌, ◌<◌, Bool, true, false, List, [], ◌∷◌, ◌++◌, length, slice_set}
-use Rattle.facts.specs.Sets.{Lists}
-use Rattle.facts.specs.declared.sets.FactSet.{FactSet}
+use Rattle.std.specs.Prelude.{◌≡◌, ℕ, ◌+◌, ◌*◌, ◌<◌, List, [], ◌∷◌, ◌++◌, length}
 use Rattle.tasks.specs.declared.moves.Move.{Move}
 use Rattle.taskfile.specs.declared.heading.Heading.{Heading}
 use Rattle.taskfile.specs.declared.keys.Key.{Key}
 use Rattle.taskfile.specs.declared.keys.Value.{Value}
-use Rattle.taskfile.specs.declared.keys.Value.TheVariants.{Number, Set}
 use Rattle.taskfile.specs.declared.misread.Flaw.{Flaw}
 use Rattle.taskfile.specs.declared.misread.Flaw.TheVariants.{WrongLine, TooManyMoves}
 use Rattle.taskfile.specs.declared.misread.Misread.{Misread}
 use Rattle.taskfile.specs.declared.reader.Reader.{Reader}
 use Rattle.taskfile.specs.Cuts.{Lacks}
-use Rattle.taskfile.specs.Entries.{Entry, number, members, line_of, Formed, InRange}
+use Rattle.taskfile.specs.Entries.{Entry, line_of, Formed, InRange}
 use Rattle.taskfile.specs.Faults.{HasLine, Faulty}
 use Rattle.taskfile.specs.Fronts.{Front, key_from}
 use Rattle.taskfile.specs.Keys.{after, lead, one_number}
 use Rattle.taskfile.specs.Tellings.{TellsHeading, TellsMove, Written}
-
-abbrev pub is_number : Value → Bool
-is_number (Number v) = true
-is_number (Set v) = false
-
-abbrev pub written : Value → List ℕ
-written (Number v) = v.now
-written (Set v) = v.now
+use Rattle.taskfile.specs.Values.{is_number, written}
 
 -- the bytes src begin with a line of the key k that has the value v
 pub record Line (k : Key) (v : Value) (src rest : List ℕ) : Type 0 where
@@ -52,11 +42,9 @@ pub record Took (a : Reader) (e : Entry) (b : Reader) : Type 0 where
   pub inside : InRange a.expected e
   pub moved : Moved a b
 
-abbrev pub TookNumber : Reader → ℕ → Reader → Type 0
-TookNumber a n b = Took a (number n) b
-
-abbrev pub TookSet : Reader → FactSet → Reader → Type 0
-TookSet a s b = (ns : List ℕ) × Lists s ns × Took a (members ns) b
+-- the reader a takes a line that tells t, and is then the reader b
+abbrev pub TookAs : {A : Type 0} → (A → Entry → Type 0) → Reader → A → Reader → Type 0
+TookAs tells a t b = (e : Entry) × tells t e × Took a e b
 
 -- the line that is due has this flaw, whatever room there is
 abbrev pub Faults : Reader → Flaw → Type 0
@@ -97,20 +85,13 @@ abbrev pub TookMove : ℕ → Reader → Move → Reader → Type 0
 TookMove room a m b = (g : Entry) × (p : Entry) × (n : Entry) × (k : Entry) × (i : Entry) × TellsMove m g p n k i × TookAll room a (g ∷ p ∷ n ∷ k ∷ i ∷ []) b
 
 -- the reader a takes the lines of this many moves, which are written to the list
-abbrev pub TookMoves : ℕ → Reader → List Move → List Move → Reader → Type 0
-TookMoves moves a before after b =
-    (es : List Entry) × (length es ≡ 5 * moves) × Written es before after × TookAll (length before) a es b
+abbrev pub TookMoves : ℕ → ℕ → Reader → List Move → List Move → Reader → Type 0
+TookMoves room moves a before after b =
+    (es : List Entry) × (length es ≡ 5 * moves) × Written es before after × TookAll room a es b
 
 abbrev pub StopsBefore : ℕ → Reader → ℕ → Misread → Type 0
 StopsBefore room a most m = (es : List Entry) × StopsIn room a most m es
 
 -- the moves that the reader takes before it stops are written to the list
-abbrev pub StopsWriting : ℕ → Reader → List Move → List Move → Misread → Type 0
-StopsWriting moves a before after m = (es : List Entry) × Written es before after × StopsIn (length before) a (5 * moves) m es
-
--- the reader a takes the lines of a move, which is written to this place
-abbrev pub PutMove : ℕ → Reader → List Move → List Move → Reader → Type 0
-PutMove place a before after b = (m : Move) × ((room : ℕ) → TookMove room a m b) × (after ≡ slice_set before place m)
-
-abbrev pub PutNone : Reader → List Move → List Move → Misread → Type 0
-PutNone a before after e = ((room : ℕ) → StopsBefore room a 5 e) × (after ≡ before)
+abbrev pub StopsWriting : ℕ → ℕ → Reader → List Move → List Move → Misread → Type 0
+StopsWriting room moves a before after m = (es : List Entry) × Written es before after × StopsIn room a (5 * moves) m es

@@ -1,11 +1,14 @@
 // Sets, written as rising numbers joined by commas.
-ghost use Rattle.std.specs.Prelude.{◌≡◌, ℕ, ◌≤◌, MatchResult};
+ghost use Rattle.std.specs.Prelude.{◌≡◌, ℕ, ◌≤◌, false, MatchResult};
 ghost use Rattle.taskfile.specs.Listings.{Joins, TookItem};
+ghost use Rattle.taskfile.specs.Tellings.{TellsSet};
 ghost use Rattle.taskfile.specs.Values.{Numeral, SetRead};
 
 use crate::cuts::cut;
+use crate::keys::{Key, Value};
 use crate::misread::Flaw;
 use crate::numbers::number;
+use crate::values::FromValue;
 use facts::FactSet;
 
 // A set as far as it is read: the least number that may come next, and its facts, `None` once a number was no fact.
@@ -56,4 +59,17 @@ pub fn set(v: &[u8]) -> Result<FactSet, Flaw>
     }
     let read = read.with(rest)?;
     read.facts.ok_or(Flaw::OutOfRange)
+}
+
+impl FromValue for FactSet {
+    ghost single = { false };
+
+    ghost tells = { TellsSet };
+
+    fn from_value(_key: Key, value: Value<'_>) -> Result<FactSet, Flaw> {
+        let Value::Set(v) = value else {
+            unreachable!();
+        };
+        set(v)
+    }
 }

@@ -1,7 +1,7 @@
 // Reading a whole file.
 ghost use Rattle.std.specs.Prelude.{◌≡◌, ℕ, ◌<◌, ◌≤◌, length, is_ok, Decides, MatchResult};
 ghost use Rattle.taskfile.specs.Outcomes.{ByLines, IsText, Only, Outcome};
-ghost use Rattle.taskfile.specs.Steps.{PutMove, PutNone, StopsBefore, StopsWriting, TooMany, TookHeading, TookMove, TookMoves};
+ghost use Rattle.taskfile.specs.Steps.{StopsBefore, StopsWriting, TooMany, TookHeading, TookMove, TookMoves};
 ghost use Rattle.taskfile.specs.Texts.{ReadsBack};
 
 use super::Reader;
@@ -42,6 +42,7 @@ fn read_short(bytes: &[u8], moves: &mut [Move]) -> Result<Heading, Misread>
 
 // Line by line.
 fn read_lines(bytes: &[u8], moves: &mut [Move]) -> Result<Heading, Misread>
+    requires { length bytes.now ≤ 60000 }
     ensures { ByLines bytes.now moves.old result moves.new }
 {
     let mut reader = Reader {
@@ -50,7 +51,7 @@ fn read_lines(bytes: &[u8], moves: &mut [Move]) -> Result<Heading, Misread>
         line: 1,
     };
     let heading = read_heading(&mut reader, moves.len())?;
-    read_moves(&mut reader, moves, heading.count)?;
+    read_moves(&mut reader, &mut moves[..usize::from(heading.count)])?;
     reader.end()?;
     Ok(heading)
 }
@@ -61,11 +62,11 @@ fn read_heading(reader: &mut Reader<'_>, room: usize) -> Result<Heading, Misread
     requires line_value { reader.old.line ≡ 1 }
     ensures { MatchResult result (λ h. TookHeading room reader.old h reader.new) (StopsBefore room reader.old 4) }
 {
-    let facts = reader.next_number()?;
-    let count = reader.next_number()?;
+    let facts: u32 = reader.next()?;
+    let count: u32 = reader.next()?;
     fit(count, room)?;
-    let start = reader.next_set()?;
-    let goal = reader.next_set()?;
+    let start = reader.next()?;
+    let goal = reader.next()?;
     Ok(Heading {
         facts: facts as u8,
         count: count as u16,
@@ -87,47 +88,27 @@ fn fit(count: u32, room: usize) -> Result<(), Misread>
     })
 }
 
-// The moves go to the first places of the list; `count` of them are read.
-fn read_moves(reader: &mut Reader<'_>, moves: &mut [Move], count: u16) -> Result<(), Misread>
-    requires expected_value { reader.old.expected ≡ Key.Group }
-    requires line_value { reader.old.line ≡ 5 }
-    requires count_bound { count ≤ 1024 }
-    requires count_in_bounds { count ≤ length moves.old }
-    ensures { MatchResult result (λ _. TookMoves count reader.old moves.old moves.new reader.new) (StopsWriting count reader.old moves.old moves.new) }
+// The moves go to the places of the list, one after another.
+fn read_moves(reader: &mut Reader<'_>, moves: &mut [Move]) -> Result<(), Misread>
+    requires { reader.old.expected ≡ Key.Group }
+    ensures { MatchResult result (λ _. (room : ℕ) → TookMoves room (length moves.old) reader.old moves.old moves.new reader.new) (λ e. (room : ℕ) → StopsWriting room (length moves.old) reader.old moves.old moves.new e) }
 {
-    for place in 0..usize::from(count) {
-        read_place(reader, moves, place)?;
+    for place in moves.iter_mut() {
+        *place = read_move(reader)?;
     }
-    Ok(())
-}
-
-// The next five lines, written to this place.
-fn read_place(reader: &mut Reader<'_>, moves: &mut [Move], place: usize) -> Result<(), Misread>
-    requires expected_value { reader.old.expected ≡ Key.Group }
-    requires line_bound { reader.old.line < 9000 }
-    requires place_in_bounds { place < length moves.old }
-    ensures { MatchResult result (λ _. PutMove place reader.old moves.old moves.new reader.new) (PutNone reader.old moves.old moves.new) }
-{
-    moves[place] = read_move(reader)?;
     Ok(())
 }
 
 // The next five lines.
 fn read_move(reader: &mut Reader<'_>) -> Result<Move, Misread>
-    requires expected_value { reader.old.expected ≡ Key.Group }
-    requires line_bound { reader.old.line < 9000 }
+    requires { reader.old.expected ≡ Key.Group }
     ensures { MatchResult result (λ m. (room : ℕ) → TookMove room reader.old m reader.new) (λ e. (room : ℕ) → StopsBefore room reader.old 5 e) }
 {
-    let group = reader.next_number()?;
-    let price = reader.next_number()?;
-    let needs = reader.next_set()?;
-    let makes = reader.next_set()?;
-    let breaks = reader.next_set()?;
     Ok(Move {
-        group: group as u8,
-        price: price as u16,
-        needs,
-        makes,
-        breaks,
+        group: reader.next::<u32>()? as u8,
+        price: reader.next::<u32>()? as u16,
+        needs: reader.next()?,
+        makes: reader.next()?,
+        breaks: reader.next()?,
     })
 }

@@ -13,27 +13,27 @@ pub returns-in_err-count : goal.returns-in_err-count
 returns-in_err-count c =
     let p = err_from_is_err_and c.from_residual-in_err-count.result c.from_residual-in_err-count.ensures.1 in
     rw (p.1, p.2)
-    (stops_second c.args.room c.args.reader.now c.next_number.new.self c.requires.expected_value _ c.in_ok-facts.ensures _ c.in_err-count.ensures)
+    (stops_second c.args.room c.args.reader.now c.next.new.self c.requires.expected_value _ c.in_ok-facts.ensures _ c.in_err-count.ensures)
 
 pub returns-in_err-fit : goal.returns-in_err-fit
 returns-in_err-fit c =
     let p = err_from_is_err_and c.from_residual-in_err-fit.result c.from_residual-in_err-fit.ensures.1 in
     let full = c.in_err-fit.ensures in
     rw (p.1, p.2)
-    (stops_full c.args.room c.args.reader.now c.next_number.new.self c.requires.expected_value _ c.in_ok-facts.ensures c.next_number-2.new.self _ c.in_ok-count.ensures _ c.requires.line_value full.0 full.1)
+    (stops_full c.args.room c.args.reader.now c.next.new.self c.requires.expected_value _ c.in_ok-facts.ensures c.next-2.new.self _ c.in_ok-count.ensures _ c.requires.line_value full.0 full.1)
 
 pub returns-in_err-start : goal.returns-in_err-start
 returns-in_err-start c =
     let p = err_from_is_err_and c.from_residual-in_err-start.result c.from_residual-in_err-start.ensures.1 in
     rw (p.1, p.2)
-    (stops_third c.args.room c.args.reader.now c.next_number.new.self c.requires.expected_value _ c.in_ok-facts.ensures c.next_number-2.new.self _ c.in_ok-count.ensures c.in_ok-fit.ensures _ c.in_err-start.ensures)
+    (stops_third c.args.room c.args.reader.now c.next.new.self c.requires.expected_value _ c.in_ok-facts.ensures c.next-2.new.self _ c.in_ok-count.ensures c.in_ok-fit.ensures _ c.in_err-start.ensures)
 
 pub returns-in_err-goal : goal.returns-in_err-goal
 returns-in_err-goal c =
     let p = err_from_is_err_and c.from_residual-in_err-goal.result c.from_residual-in_err-goal.ensures.1 in
     rw (p.1, p.2)
-    (stops_fourth c.args.room c.args.reader.now c.next_number.new.self c.requires.expected_value _ c.in_ok-facts.ensures c.next_number-2.new.self _ c.in_ok-count.ensures c.in_ok-fit.ensures c.next_set.new.self _ c.in_ok-start.ensures _ c.in_err-goal.ensures)
+    (stops_fourth c.args.room c.args.reader.now c.next.new.self c.requires.expected_value _ c.in_ok-facts.ensures c.next-2.new.self _ c.in_ok-count.ensures c.in_ok-fit.ensures c.next-3.new.self _ c.in_ok-start.ensures _ c.in_err-goal.ensures)
 
 pub returns : goal.returns
 returns c =
-    heading_whole c.args.room c.args.reader.now c.next_number.new.self c.requires.expected_value _ c.in_ok-facts.ensures c.next_number-2.new.self _ c.in_ok-count.ensures c.in_ok-fit.ensures c.next_set.new.self _ c.in_ok-start.ensures c.next_set-2.new.self _ c.in_ok-goal.ensures
+    heading_whole c.args.room c.args.reader.now c.next.new.self c.requires.expected_value _ c.in_ok-facts.ensures c.next-2.new.self _ c.in_ok-count.ensures c.in_ok-fit.ensures c.next-3.new.self _ c.in_ok-start.ensures c.next-4.new.self _ c.in_ok-goal.ensures
