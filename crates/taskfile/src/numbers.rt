@@ -15,12 +15,9 @@ pub fn number(v: &[u8]) -> Result<u32, Flaw>
     ensures { MatchResult result (λ n. Numeral v.now n) (λ f. (f ≡ Flaw.Malformed) × ((n : ℕ) → Numeral v.now n → ⊥)) }
 {
     match v {
-        [] => return Err(Flaw::Malformed),
-        [b'0', _, ..] => return Err(Flaw::Malformed),
+        [] | [b'0', _, ..] => return Err(Flaw::Malformed),
+        _ if v.len() > DIGITS => return Err(Flaw::Malformed),
         _ => {}
-    }
-    if v.len() > DIGITS {
-        return Err(Flaw::Malformed);
     }
     let mut n = 0;
     for b in v {

@@ -38,7 +38,7 @@ impl Listing {
 fn joined(facts: Option<FactSet>, n: u32) -> Option<FactSet>
     ensures { Joins n facts result }
 {
-    facts?.with(n.min(64) as u8)
+    facts?.with(u8::try_from(n).ok()?)
 }
 
 // The facts of the set that the bytes write.
