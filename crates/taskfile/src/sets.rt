@@ -4,7 +4,6 @@ ghost use Rattle.taskfile.specs.Listings.{Joins, TookItem};
 ghost use Rattle.taskfile.specs.Tellings.{TellsSet};
 ghost use Rattle.taskfile.specs.Values.{Numeral, SetRead};
 
-use crate::cuts::cut;
 use crate::keys::{Key, Value};
 use crate::misread::Flaw;
 use crate::numbers::number;
@@ -48,16 +47,13 @@ pub fn set(v: &[u8]) -> Result<FactSet, Flaw>
     if v.is_empty() {
         return Ok(FactSet::empty());
     }
-    let mut rest = v;
     let mut read = Listing {
         least: 0,
         facts: Some(FactSet::empty()),
     };
-    while let Some((item, after)) = cut(rest, b',') {
+    for item in v.split(|b| *b == b',') {
         read = read.with(item)?;
-        rest = after;
     }
-    let read = read.with(rest)?;
     read.facts.ok_or(Flaw::OutOfRange)
 }
 
