@@ -57,9 +57,11 @@ module _ (room : ℕ) (a b : Reader) (key : a.expected ≡ Facts) (f : ℕ) (t�
 
         pub heading_whole : (v : Reader) (goal : FactSet) → TookAs TellsSet u goal v → TookHeading room a (record { facts = f; count = c; start = start; goal = goal }) v
         heading_whole v goal t₄ = (
-          t₁.0 ∷ t₂.0 ∷ t₃.0 ∷ t₄.0 ∷ [],
+          t₁.0,
+          t₂.0,
+          t₃.0,
+          t₄.0,
           heading t₁.1 t₂.1 t₃.1 t₄.1,
-          refl,
           and_one room a u Facts key _ heading_three v t₄.0 t₄.2 (λ e. cc),
         )
 

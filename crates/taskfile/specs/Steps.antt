@@ -79,7 +79,7 @@ pub record StopsIn (room : ℕ) (a : Reader) (most : ℕ) (m : Misread) (es : Li
   pub line : m.line ≡ a.line + length es
 
 abbrev pub TookHeading : ℕ → Reader → Heading → Reader → Type 0
-TookHeading room a h b = (es : List Entry) × TellsHeading h es × (length es ≡ 4) × TookAll room a es b
+TookHeading room a h b = (f : Entry) × (c : Entry) × (s : Entry) × (g : Entry) × TellsHeading h (f ∷ c ∷ s ∷ g ∷ []) × TookAll room a (f ∷ c ∷ s ∷ g ∷ []) b
 
 abbrev pub TookMove : ℕ → Reader → Move → Reader → Type 0
 TookMove room a m b = (g : Entry) × (p : Entry) × (n : Entry) × (k : Entry) × (i : Entry) × TellsMove m g p n k i × TookAll room a (g ∷ p ∷ n ∷ k ∷ i ∷ []) b

@@ -1,6 +1,6 @@
 use Rattle.std.proofs.Common.{rules, eqb, refl, subst, arith, true-eqb, false-eqb}
 use Rattle.std.proofs.lemmas.List.Sorted.{answers_always}
-use Rattle.std.proofs.lemmas.Result.{err_from_is_err_and}
+use Rattle.taskfile.proofs.Exits.{exits}
 use Rattle.taskfile.proofs.Listings.{Left, start, nothing, left_more, left_refused}
 use Rattle.taskfile.proofs.sets.set.Goals as goal
 
@@ -15,11 +15,10 @@ loop-item-init c =
 
 pub returns-in_err-read : goal.returns-in_err-read
 returns-in_err-read c =
-    let p = err_from_is_err_and c.from_residual.result c.from_residual.ensures.1 in
     let f = c.in_err-read.ensures in
     let l = c.loop-item in
     let z = c.in-Some.ensures.steps in
-    rw (p.1, p.2, f.0)
+    rw (exits c.from_residual.ensures.1, f.0)
     (left_refused c.args.v.now l.read c.next.new.self.done l.item-iterator.rest.now c.in-Some.item.now c.next.new.self.rest.now
         (subst (λ d. Left c.args.v.now l.read d l.item-iterator.rest.now) z.0 l.invariant)
         (z.1, (z.2 (λ b. eqb b 44) (answers_always _ _ _ (λ f a r g h. search rules))).1) f.1)

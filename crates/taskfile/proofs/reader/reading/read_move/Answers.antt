@@ -1,36 +1,31 @@
 use Rattle.std.proofs.Common.{arith}
-use Rattle.std.proofs.lemmas.Result.{err_from_is_err_and}
+use Rattle.taskfile.proofs.Exits.{exits}
 use Rattle.taskfile.proofs.Beginning.{stops_first, stops_price, stops_needs, stops_makes, stops_breaks, move_whole}
 use Rattle.taskfile.proofs.reader.reading.read_move.Goals as goal
 
 pub returns-in_err-next : goal.returns-in_err-next
 returns-in_err-next c =
-    let p = err_from_is_err_and c.from_residual.result c.from_residual.ensures.1 in
-    rw (p.1, p.2)
+    rw (exits c.from_residual.ensures.1)
     (λ room. stops_first room 5 c.args.reader.now _ c.in_err-next.ensures (omega arith))
 
 pub returns-in_err-next-2 : goal.returns-in_err-next-2
 returns-in_err-next-2 c =
-    let p = err_from_is_err_and c.from_residual-in_err-next-2.result c.from_residual-in_err-next-2.ensures.1 in
-    rw (p.1, p.2)
+    rw (exits c.from_residual-in_err-next-2.ensures.1)
     (λ room. stops_price room c.args.reader.now c.next.new.self c.requires _ c.in_ok-next.ensures _ c.in_err-next-2.ensures)
 
 pub returns-in_err-next-3 : goal.returns-in_err-next-3
 returns-in_err-next-3 c =
-    let p = err_from_is_err_and c.from_residual-in_err-next-3.result c.from_residual-in_err-next-3.ensures.1 in
-    rw (p.1, p.2)
+    rw (exits c.from_residual-in_err-next-3.ensures.1)
     (λ room. stops_needs room c.args.reader.now c.next.new.self c.requires _ c.in_ok-next.ensures c.next-2.new.self _ c.in_ok-next-2.ensures _ c.in_err-next-3.ensures)
 
 pub returns-in_err-next-4 : goal.returns-in_err-next-4
 returns-in_err-next-4 c =
-    let p = err_from_is_err_and c.from_residual-in_err-next-4.result c.from_residual-in_err-next-4.ensures.1 in
-    rw (p.1, p.2)
+    rw (exits c.from_residual-in_err-next-4.ensures.1)
     (λ room. stops_makes room c.args.reader.now c.next.new.self c.requires _ c.in_ok-next.ensures c.next-2.new.self _ c.in_ok-next-2.ensures c.next-3.new.self _ c.in_ok-next-3.ensures _ c.in_err-next-4.ensures)
 
 pub returns-in_err-next-5 : goal.returns-in_err-next-5
 returns-in_err-next-5 c =
-    let p = err_from_is_err_and c.from_residual-in_err-next-5.result c.from_residual-in_err-next-5.ensures.1 in
-    rw (p.1, p.2)
+    rw (exits c.from_residual-in_err-next-5.ensures.1)
     (λ room. stops_breaks room c.args.reader.now c.next.new.self c.requires _ c.in_ok-next.ensures c.next-2.new.self _ c.in_ok-next-2.ensures c.next-3.new.self _ c.in_ok-next-3.ensures c.next-4.new.self _ c.in_ok-next-4.ensures _ c.in_err-next-5.ensures)
 
 pub returns : goal.returns

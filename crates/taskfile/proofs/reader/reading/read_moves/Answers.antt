@@ -1,7 +1,7 @@
 use Rattle.std.proofs.Common.{◌≡◌, length, subst, arith}
 use Rattle.std.proofs.lemmas.List.{set-get_or}
-use Rattle.std.proofs.lemmas.Result.{err_from_is_err_and}
 use Rattle.taskfile.specs.Steps.{TookMoves}
+use Rattle.taskfile.proofs.Exits.{exits}
 use Rattle.taskfile.proofs.Filling.{moves_none, moves_more, moves_stop, next_group}
 use Rattle.taskfile.proofs.reader.reading.read_moves.Goals as goal
 
@@ -10,9 +10,8 @@ loop-place-init c = record { taken = λ room. moves_none room c.args.reader.now 
 
 pub returns-in_err-place : goal.returns-in_err-place
 returns-in_err-place c =
-    let p = err_from_is_err_and c.from_residual.result c.from_residual.ensures.1 in
     let l = c.loop-place in
-    rw (p.1, p.2, set-get_or)
+    rw (exits c.from_residual.ensures.1, set-get_or)
     (λ room. moves_stop room l.place-index _ l.reader _ l.moves (l.invariant.taken room) _ _ (c.in_err-place.ensures room) (omega arith))
 
 pub loop-place-preserved : goal.loop-place-preserved
