@@ -1,7 +1,7 @@
 -- What is left of a set, and what reading it makes of the numbers before.
 use Rattle.std.proofs.Common.{◌≡◌, ℕ, ◌+◌, ◌<◌, ◌≤◌, Bool, true, false, ◌||◌, eqb, ◌⊎◌, List, [], ◌∷◌, ◌++◌, length, get_or, Some, None, Ok, Err, decimal, Decides, Option, Result, sym, refl, ap, ◌∙◌, subst, inl, inr, ⊎_elim, arith}
 use Rattle.std.proofs.lemmas.List.{append-nil, get_or_at, get_or_append_left, length-append}
-use Rattle.std.proofs.lemmas.Bool.{eq-eqb, eqb-true, or_cases, or_left, or_right}
+use Rattle.std.proofs.lemmas.Bool.{eq-eqb, eqb-true, eqb-false, or_cases, or_left, or_right}
 use Rattle.std.specs.Bool.{MatchBool}
 use Rattle.std.specs.Option.{ok_or}
 use Rattle.std.specs.List.{AllByRecursion, IsFirstMatchOrLen}
@@ -190,7 +190,7 @@ Part rest item ends more =
 part_lacks : (rest item more : List ℕ) → rest ≡ item ++ more → IsFirstMatchOrLen (λ b. eqb b 44) rest (length item) → Lacks 44 item
 part_lacks rest item more e f k lt is =
     let here = ap (λ l. get_or l k 0) e ∙ get_or_append_left item more 0 k lt ∙ is in
-    not_true_false (sym (f.0 k 0 (omega arith) lt) ∙ eq-eqb (get_or rest k 0) 44 here)
+    eqb-false (get_or rest k 0) 44 (f.0 k 0 (omega arith) lt) here
 
 part_cut : (rest item more : List ℕ) (y : ℕ) → rest ≡ item ++ y ∷ more → IsFirstMatchOrLen (λ b. eqb b 44) rest (length item) → Cut 44 rest item more
 part_cut rest item more y e f =

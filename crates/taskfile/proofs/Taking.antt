@@ -1,7 +1,8 @@
 -- One line, as the reader takes it.
-use Rattle.std.proofs.Common.{◌≡◌, ℕ, suc, ◌+◌, false, List, [], ◌∷◌, ◌++◌, length, get_or, Ok, Err, Result, sym, refl, ap, ◌∙◌, subst, append_assoc, arith, MatchResult}
+use Rattle.std.proofs.Common.{◌≡◌, ℕ, suc, ◌+◌, ◌-◌, ◌≤◌, false, List, [], ◌∷◌, ◌++◌, length, get_or, take, drop, Ok, Err, Result, sym, refl, ap, ◌∙◌, subst, append_assoc, arith, MatchResult}
 use borrow.Author.Tests.{clash}
-use Rattle.std.proofs.lemmas.List.{get_or-append-add, length-append}
+use Rattle.std.proofs.lemmas.List.{get_or-append-add, length-append, take_rest}
+use Rattle.std.proofs.lemmas.Slice.Eq.{HasBytesAt}
 use Rattle.std.specs.List.{AllByRecursion}
 use Rattle.std.specs.Result.{IsErrAnd}
 use Rattle.facts.specs.declared.sets.FactSet.{FactSet}
@@ -20,6 +21,7 @@ use Rattle.taskfile.specs.Steps.{Line, TookLine, NoLine, TookAs, Faults, Stops}
 use Rattle.taskfile.specs.Tellings.{TellsSet}
 use Rattle.taskfile.specs.Values.{is_number, written, Listed, OnlyFacts, SetRead, ReadAs}
 use Rattle.taskfile.proofs.Cutting.{no_cut}
+use Rattle.taskfile.proofs.Leading.{begins}
 use Rattle.taskfile.proofs.Wholes.{lead_lacks, line_then, same_line}
 
 -- what a text begins with, and has no b, its part before a b begins with
@@ -46,8 +48,10 @@ refused a line after c f (v, rest, e) =
     let r = within 10 (lead a.expected) line after (v ++ 10 ∷ rest) (lead_lacks a.expected) (sym c.parts ∙ e) in
     f r.0 r.1
 
-pub took : (a b : Reader) (k : Key) (w : Value) (got : Value × Key) (line : List ℕ) → Cut 10 a.rest.now line b.rest.now → a.expected ≡ k → got ≡ (w, after k) → is_number w ≡ one_number k → line ≡ lead k ++ written w → b.expected ≡ got.1 → b.line ≡ a.line + 1 → TookLine a got.0 b
-took a b k w got line c e g s h next count =
+-- the line begins with the lead of k, and w is what follows it
+pub took : (a b : Reader) (k : Key) (w : Value) (got : Value × Key) (line : List ℕ) → Cut 10 a.rest.now line b.rest.now → a.expected ≡ k → got ≡ (w, after k) → is_number w ≡ one_number k → length (lead k) ≤ length line → HasBytesAt line 0 (lead k) → written w ≡ take (length line - length (lead k)) (drop (length (lead k)) line) → b.expected ≡ got.1 → b.line ≡ a.line + 1 → TookLine a got.0 b
+took a b k w got line c e g s long led rest next count =
+    let h : line ≡ lead k ++ written w = begins (lead k) line long led ∙ ap (λ t. lead k ++ t) (sym (rest ∙ take_rest line (length (lead k)))) in
     let line_is : Line k w a.rest.now b.rest.now = record {
       text = c.parts ∙ ap (λ l. l ++ 10 ∷ b.rest.now) h ∙ append_assoc (lead k) (written w) (10 ∷ b.rest.now);
       sort = s;
@@ -71,13 +75,15 @@ set_range Needs s = (refl, refl)
 set_range Makes s = (refl, refl)
 set_range Breaks s = (refl, refl)
 
+weaker : {P Q : ℕ → Type 0} → ((n : ℕ) → P n → Q n) → (ns : List ℕ) → AllByRecursion P ns → AllByRecursion Q ns
+weaker f [] h = tt
+weaker f (n ∷ ns) h = (f n h.0, weaker f ns h.1)
+
 facts_between : (k : Key) → one_number k ≡ false → (ns : List ℕ) → OnlyFacts ns → AllByRecursion (Between k) ns
-facts_between k s [] h = tt
-facts_between k s (n ∷ ns) h = let r = set_range k s in ((omega arith, omega (arith, h.0)), facts_between k s ns h.1)
+facts_between k s = let r = set_range k s in weaker (λ n h. (omega arith, omega arith))
 
 between_facts : (k : Key) → one_number k ≡ false → (ns : List ℕ) → AllByRecursion (Between k) ns → OnlyFacts ns
-between_facts k s [] h = tt
-between_facts k s (n ∷ ns) h = let r = set_range k s in (omega (arith, h.0.1), between_facts k s ns h.1)
+between_facts k s = let r = set_range k s in weaker (λ n h. omega (arith, h.1))
 
 -- the value of the line at hand
 module _ (a b : Reader) (v : Value) (t : TookLine a v b) where
