@@ -19,6 +19,7 @@ pub fn number(v: &[u8]) -> Result<u32, Flaw>
         _ if v.len() > DIGITS => return Err(Flaw::Malformed),
         _ => {}
     }
+    // no chain: the bound on the sum needs an invariant
     let mut n = 0;
     for b in v {
         if !b.is_ascii_digit() {

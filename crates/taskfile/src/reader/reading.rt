@@ -67,6 +67,7 @@ fn read_heading(reader: &mut Reader<'_>, room: usize) -> Result<Heading, Misread
     fit(count, room)?;
     let start = reader.next()?;
     let goal = reader.next()?;
+    // `as` is proved to lose nothing; a `try_from` could fail
     Ok(Heading {
         facts: facts as u8,
         count: count as u16,
@@ -104,6 +105,7 @@ fn read_move(reader: &mut Reader<'_>) -> Result<Move, Misread>
     requires { reader.old.expected ≡ Key.Group }
     ensures { MatchResult result (λ m. (room : ℕ) → TookMove room reader.old m reader.new) (λ e. (room : ℕ) → StopsBefore room reader.old 5 e) }
 {
+    // `as` is proved to lose nothing; a `try_from` could fail
     Ok(Move {
         group: reader.next::<u32>()? as u8,
         price: reader.next::<u32>()? as u16,
