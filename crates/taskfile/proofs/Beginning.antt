@@ -20,86 +20,78 @@ fits_no_more : (room : ℕ) (k : Key) (c : ℕ) (e : Entry) → TellsNumber c e 
 fits_no_more room k c (number n) t key h fits = let q = fits key in omega (arith, t)
 fits_no_more room k c (members ns) t key h fits = t
 
--- the first line
-pub stops_first : (room most : ℕ) (a : Reader) (m : Misread) → Stops a m → 0 < most → StopsBefore room a most m
-stops_first room most a m s h = stops_now room a a a.expected refl [] (took_none room a) most m s h
+module _ {room : ℕ} {a : Reader} where
+  -- at the first line
+  pub stops_first : {most : ℕ} {m : Misread} → Stops a m → 0 < most → StopsBefore room a most m
+  stops_first s h = stops_now refl (took_none room a) s h
 
-module _ (room : ℕ) (a b : Reader) (key : a.expected ≡ Facts) (f : ℕ) (t₁ : TookAs TellsNumber a f b) where
-  heading_one : TookAll room a (t₁.0 ∷ []) b
-  heading_one = and_one room a a Facts key [] (took_none room a) b t₁.0 t₁.2 (λ e. cc)
+  module _ (key : a.expected ≡ Facts) {b : Reader} {f : ℕ} (t₁ : TookAs TellsNumber a f b) where
+    heading_one : TookAll room a (t₁.entry ∷ []) b
+    heading_one = and_one key (took_none room a) t₁.took (λ e. cc)
 
-  second_key : b.expected ≡ Moves
-  second_key = t₁.2.moved.next ∙ ap after key
+    pub stops_second : {m : Misread} → Stops b m → StopsBefore room a 4 m
+    stops_second s = stops_now key heading_one s (omega arith)
 
-  pub stops_second : (m : Misread) → Stops b m → StopsBefore room a 4 m
-  stops_second m s = stops_now room a b Facts key _ heading_one 4 m s (omega arith)
+    module _ {d : Reader} {c : ℕ} (t₂ : TookAs TellsNumber b c d) where
+      pub stops_full : {m : Misread} → a.line ≡ 1 → room < c → TooMany m → StopsBefore room a 4 m
+      stops_full l h t =
+          let none = fits_no_more room b.expected c t₂.entry t₂.told (t₁.took.moved.next ∙ ap after key) h in
+          stops_here key heading_one
+          (subst (Faulty room b.expected b.rest.now) (sym t.flaw) (t₂.entry, (d.rest.now, t₂.took.text), t₂.took.formed, t₂.took.inside, none))
+          (omega (arith, t.line, t₁.took.moved.count)) (omega arith)
 
-  module _ (d : Reader) (c : ℕ) (t₂ : TookAs TellsNumber b c d) where
-    pub stops_full : (m : Misread) → a.line ≡ 1 → room < c → TooMany m → StopsBefore room a 4 m
-    stops_full m l h t =
-        stops_here room a b Facts key _ heading_one 4 m
-        (subst (Faulty room b.expected b.rest.now) (sym t.flaw) (t₂.0, (d.rest.now, t₂.2.text), t₂.2.formed, t₂.2.inside, fits_no_more room b.expected c t₂.0 t₂.1 second_key h))
-        (omega (arith, t.line, t₁.2.moved.count)) (omega arith)
+      module _ (fit : c ≤ room) where
+        heading_two : TookAll room a (t₁.entry ∷ t₂.entry ∷ []) d
+        heading_two = all_then room a b d _ _ heading_one (one room b d t₂.entry t₂.took (fits_count room b.expected c t₂.entry t₂.told fit))
 
-    module _ (fit : c ≤ room) where
-      heading_two : TookAll room a (t₁.0 ∷ t₂.0 ∷ []) d
-      heading_two = all_then room a b d _ (t₂.0 ∷ []) heading_one (one room b d t₂.0 t₂.2 (fits_count room b.expected c t₂.0 t₂.1 fit))
+        pub stops_third : {m : Misread} → Stops d m → StopsBefore room a 4 m
+        stops_third s = stops_now key heading_two s (omega arith)
 
-      pub stops_third : (m : Misread) → Stops d m → StopsBefore room a 4 m
-      stops_third m s = stops_now room a d Facts key _ heading_two 4 m s (omega arith)
+        module _ {u : Reader} {start : FactSet} (t₃ : TookAs TellsSet d start u) where
+          heading_three : TookAll room a (t₁.entry ∷ t₂.entry ∷ t₃.entry ∷ []) u
+          heading_three = and_one key heading_two t₃.took (λ e. cc)
 
-      module _ (u : Reader) (start : FactSet) (t₃ : TookAs TellsSet d start u) where
-        heading_three : TookAll room a (t₁.0 ∷ t₂.0 ∷ t₃.0 ∷ []) u
-        heading_three = and_one room a d Facts key _ heading_two u t₃.0 t₃.2 (λ e. cc)
+          pub stops_fourth : {m : Misread} → Stops u m → StopsBefore room a 4 m
+          stops_fourth s = stops_now key heading_three s (omega arith)
 
-        pub stops_fourth : (m : Misread) → Stops u m → StopsBefore room a 4 m
-        stops_fourth m s = stops_now room a u Facts key _ heading_three 4 m s (omega arith)
+          pub heading_whole : {v : Reader} {goal : FactSet} → TookAs TellsSet u goal v → TookHeading room a (record { facts = f; count = c; start = start; goal = goal }) v
+          heading_whole t₄ = (t₁.entry, t₂.entry, t₃.entry, t₄.entry, heading t₁.told t₂.told t₃.told t₄.told, and_one key heading_three t₄.took (λ e. cc))
 
-        pub heading_whole : (v : Reader) (goal : FactSet) → TookAs TellsSet u goal v → TookHeading room a (record { facts = f; count = c; start = start; goal = goal }) v
-        heading_whole v goal t₄ = (
-          t₁.0,
-          t₂.0,
-          t₃.0,
-          t₄.0,
-          heading t₁.1 t₂.1 t₃.1 t₄.1,
-          and_one room a u Facts key _ heading_three v t₄.0 t₄.2 (λ e. cc),
-        )
+  module _ (key : a.expected ≡ Group) {b : Reader} {g : ℕ} (t₁ : TookAs TellsNumber a g b) where
+    move_one : TookAll room a (t₁.entry ∷ []) b
+    move_one = and_one key (took_none room a) t₁.took (λ e. cc)
 
-module _ (room : ℕ) (a b : Reader) (key : a.expected ≡ Group) (g : ℕ) (t₁ : TookAs TellsNumber a g b) where
-  move_one : TookAll room a (t₁.0 ∷ []) b
-  move_one = and_one room a a Group key [] (took_none room a) b t₁.0 t₁.2 (λ e. cc)
+    pub stops_price : {m : Misread} → Stops b m → StopsBefore room a 5 m
+    stops_price s = stops_now key move_one s (omega arith)
 
-  pub stops_price : (m : Misread) → Stops b m → StopsBefore room a 5 m
-  stops_price m s = stops_now room a b Group key _ move_one 5 m s (omega arith)
+    module _ {d : Reader} {p : ℕ} (t₂ : TookAs TellsNumber b p d) where
+      move_two : TookAll room a (t₁.entry ∷ t₂.entry ∷ []) d
+      move_two = and_one key move_one t₂.took (λ e. cc)
 
-  module _ (d : Reader) (p : ℕ) (t₂ : TookAs TellsNumber b p d) where
-    move_two : TookAll room a (t₁.0 ∷ t₂.0 ∷ []) d
-    move_two = and_one room a b Group key _ move_one d t₂.0 t₂.2 (λ e. cc)
+      pub stops_needs : {m : Misread} → Stops d m → StopsBefore room a 5 m
+      stops_needs s = stops_now key move_two s (omega arith)
 
-    pub stops_needs : (m : Misread) → Stops d m → StopsBefore room a 5 m
-    stops_needs m s = stops_now room a d Group key _ move_two 5 m s (omega arith)
+      module _ {u : Reader} {needs : FactSet} (t₃ : TookAs TellsSet d needs u) where
+        move_three : TookAll room a (t₁.entry ∷ t₂.entry ∷ t₃.entry ∷ []) u
+        move_three = and_one key move_two t₃.took (λ e. cc)
 
-    module _ (u : Reader) (needs : FactSet) (t₃ : TookAs TellsSet d needs u) where
-      move_three : TookAll room a (t₁.0 ∷ t₂.0 ∷ t₃.0 ∷ []) u
-      move_three = and_one room a d Group key _ move_two u t₃.0 t₃.2 (λ e. cc)
+        pub stops_makes : {m : Misread} → Stops u m → StopsBefore room a 5 m
+        stops_makes s = stops_now key move_three s (omega arith)
 
-      pub stops_makes : (m : Misread) → Stops u m → StopsBefore room a 5 m
-      stops_makes m s = stops_now room a u Group key _ move_three 5 m s (omega arith)
+        module _ {v : Reader} {makes : FactSet} (t₄ : TookAs TellsSet u makes v) where
+          move_four : TookAll room a (t₁.entry ∷ t₂.entry ∷ t₃.entry ∷ t₄.entry ∷ []) v
+          move_four = and_one key move_three t₄.took (λ e. cc)
 
-      module _ (v : Reader) (makes : FactSet) (t₄ : TookAs TellsSet u makes v) where
-        move_four : TookAll room a (t₁.0 ∷ t₂.0 ∷ t₃.0 ∷ t₄.0 ∷ []) v
-        move_four = and_one room a u Group key _ move_three v t₄.0 t₄.2 (λ e. cc)
+          pub stops_breaks : {m : Misread} → Stops v m → StopsBefore room a 5 m
+          stops_breaks s = stops_now key move_four s (omega arith)
 
-        pub stops_breaks : (m : Misread) → Stops v m → StopsBefore room a 5 m
-        stops_breaks m s = stops_now room a v Group key _ move_four 5 m s (omega arith)
-
-        pub move_whole : (w : Reader) (breaks : FactSet) → TookAs TellsSet v breaks w → TookMove room a (record { group = g; price = p; needs = needs; makes = makes; breaks = breaks }) w
-        move_whole w breaks t₅ = (
-          t₁.0,
-          t₂.0,
-          t₃.0,
-          t₄.0,
-          t₅.0,
-          record { group = t₁.1; price = t₂.1; needs = t₃.1; makes = t₄.1; breaks = t₅.1 },
-          and_one room a v Group key _ move_four w t₅.0 t₅.2 (λ e. cc),
-        )
+          pub move_whole : {w : Reader} {breaks : FactSet} → TookAs TellsSet v breaks w → TookMove room a (record { group = g; price = p; needs = needs; makes = makes; breaks = breaks }) w
+          move_whole t₅ = (
+            t₁.entry,
+            t₂.entry,
+            t₃.entry,
+            t₄.entry,
+            t₅.entry,
+            record { group = t₁.told; price = t₂.told; needs = t₃.told; makes = t₄.told; breaks = t₅.told },
+            and_one key move_four t₅.took (λ e. cc),
+          )

@@ -66,15 +66,15 @@ fits_other : (room : ℕ) (k : Key) (e : Entry) → (k ≡ Moves → ⊥) → Fi
 fits_other room k (number n) other = λ h. absurd (other h)
 fits_other room k (members ns) other = tt
 
-module _ (room : ℕ) (a b : Reader) (k : Key) (key : a.expected ≡ k) (es : List Entry) (s : TookAll room a es b) where
+module _ {room : ℕ} {a b : Reader} {k : Key} (key : a.expected ≡ k) {es : List Entry} (s : TookAll room a es b) where
   -- the lines es, and one more
-  pub and_one : (d : Reader) (e : Entry) → Took b e d → (key_from k es ≡ Moves → ⊥) → TookAll room a (es ++ e ∷ []) d
-  and_one d e t other =
+  pub and_one : {d : Reader} {e : Entry} → Took b e d → (key_from k es ≡ Moves → ⊥) → TookAll room a (es ++ e ∷ []) d
+  and_one {d = d} {e = e} t other =
       all_then room a b d es (e ∷ []) s (one room b d e t (fits_other room b.expected e (λ h. other (ap (λ x. key_from x es) (sym key) ∙ sym s.next ∙ h))))
 
   -- the lines es, and a stop
-  pub stops_here : (most : ℕ) (m : Misread) → Faulty room b.expected b.rest.now m.flaw → m.line ≡ b.line → length es < most → StopsBefore room a most m
-  stops_here most m f l h = (
+  pub stops_here : {most : ℕ} {m : Misread} → Faulty room b.expected b.rest.now m.flaw → m.line ≡ b.line → length es < most → StopsBefore room a most m
+  stops_here {m = m} f l h = (
     es,
     record {
       rest = b.rest.now;
@@ -85,5 +85,5 @@ module _ (room : ℕ) (a b : Reader) (k : Key) (key : a.expected ≡ k) (es : Li
     },
   )
 
-  pub stops_now : (most : ℕ) (m : Misread) → Stops b m → length es < most → StopsBefore room a most m
-  stops_now most m t h = stops_here most m (t.flaw room) t.line h
+  pub stops_now : {most : ℕ} {m : Misread} → Stops b m → length es < most → StopsBefore room a most m
+  stops_now t h = stops_here (t.flaw room) t.line h

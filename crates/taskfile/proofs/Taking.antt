@@ -99,7 +99,7 @@ module _ (a b : Reader) (v : Value) (t : TookLine a v b) where
   there = (written v, b.rest.now, t.line.text)
 
   pub take_read : {A : Type 0} (tells : A → Entry → Type 0) (r : Result A Flaw) → ReadAs tells a.expected (written v) r → MatchResult r (λ u. TookAs tells a u b) (Faults a)
-  take_read tells (Ok u) (e, h, w, f, i) = (e, h, record { text = said e w; formed = f; inside = i; moved = t.moved })
+  take_read tells (Ok u) (e, h, w, f, i) = record { entry = e; told = h; took = record { text = said e w; formed = f; inside = i; moved = t.moved } }
   take_read tells (Err WrongLine) h = absurd h
   take_read tells (Err Malformed) h = λ room. (there, λ e f says. h e f (only_said e f says))
   take_read tells (Err OutOfRange) (e, w, f, out) = λ room. (e, (b.rest.now, said e w), f, out)

@@ -43,8 +43,10 @@ pub record Took (a : Reader) (e : Entry) (b : Reader) : Type 0 where
   pub moved : Moved a b
 
 -- the reader a takes a line that tells t, and is then the reader b
-abbrev pub TookAs : {A : Type 0} → (A → Entry → Type 0) → Reader → A → Reader → Type 0
-TookAs tells a t b = (e : Entry) × tells t e × Took a e b
+pub record TookAs {A : Type 0} (tells : A → Entry → Type 0) (a : Reader) (t : A) (b : Reader) : Type 0 where
+  pub entry : Entry
+  pub told : tells t entry
+  pub took : Took a entry b
 
 -- the line that is due has this flaw, whatever room there is
 abbrev pub Faults : Reader → Flaw → Type 0

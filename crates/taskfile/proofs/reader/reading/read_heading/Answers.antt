@@ -4,31 +4,29 @@ use Rattle.taskfile.proofs.Beginning.{stops_first, stops_second, stops_full, sto
 use Rattle.taskfile.proofs.reader.reading.read_heading.Goals as goal
 
 pub returns-in_err-facts : goal.returns-in_err-facts
-returns-in_err-facts c =
-    rw (exits c.from_residual.ensures.1)
-    (stops_first c.args.room 4 c.args.reader.now _ c.in_err-facts.ensures (omega arith))
+returns-in_err-facts c = rw (exits c.from_residual.ensures.1) (stops_first c.in_err-facts.ensures (omega arith))
 
 pub returns-in_err-count : goal.returns-in_err-count
 returns-in_err-count c =
     rw (exits c.from_residual-in_err-count.ensures.1)
-    (stops_second c.args.room c.args.reader.now c.next.new.self c.requires.expected_value _ c.in_ok-facts.ensures _ c.in_err-count.ensures)
+    (stops_second c.requires.expected_value c.in_ok-facts.ensures c.in_err-count.ensures)
 
 pub returns-in_err-fit : goal.returns-in_err-fit
 returns-in_err-fit c =
     let full = c.in_err-fit.ensures in
     rw (exits c.from_residual-in_err-fit.ensures.1)
-    (stops_full c.args.room c.args.reader.now c.next.new.self c.requires.expected_value _ c.in_ok-facts.ensures c.next-2.new.self _ c.in_ok-count.ensures _ c.requires.line_value full.0 full.1)
+    (stops_full c.requires.expected_value c.in_ok-facts.ensures c.in_ok-count.ensures c.requires.line_value full.0 full.1)
 
 pub returns-in_err-start : goal.returns-in_err-start
 returns-in_err-start c =
     rw (exits c.from_residual-in_err-start.ensures.1)
-    (stops_third c.args.room c.args.reader.now c.next.new.self c.requires.expected_value _ c.in_ok-facts.ensures c.next-2.new.self _ c.in_ok-count.ensures c.in_ok-fit.ensures _ c.in_err-start.ensures)
+    (stops_third c.requires.expected_value c.in_ok-facts.ensures c.in_ok-count.ensures c.in_ok-fit.ensures c.in_err-start.ensures)
 
 pub returns-in_err-goal : goal.returns-in_err-goal
 returns-in_err-goal c =
     rw (exits c.from_residual-in_err-goal.ensures.1)
-    (stops_fourth c.args.room c.args.reader.now c.next.new.self c.requires.expected_value _ c.in_ok-facts.ensures c.next-2.new.self _ c.in_ok-count.ensures c.in_ok-fit.ensures c.next-3.new.self _ c.in_ok-start.ensures _ c.in_err-goal.ensures)
+    (stops_fourth c.requires.expected_value c.in_ok-facts.ensures c.in_ok-count.ensures c.in_ok-fit.ensures c.in_ok-start.ensures c.in_err-goal.ensures)
 
 pub returns : goal.returns
 returns c =
-    heading_whole c.args.room c.args.reader.now c.next.new.self c.requires.expected_value _ c.in_ok-facts.ensures c.next-2.new.self _ c.in_ok-count.ensures c.in_ok-fit.ensures c.next-3.new.self _ c.in_ok-start.ensures c.next-4.new.self _ c.in_ok-goal.ensures
+    heading_whole c.requires.expected_value c.in_ok-facts.ensures c.in_ok-count.ensures c.in_ok-fit.ensures c.in_ok-start.ensures c.in_ok-goal.ensures
