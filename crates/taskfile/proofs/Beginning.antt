@@ -55,7 +55,7 @@ module _ {room : ℕ} {a : Reader} where
           stops_fourth s = stops_now key heading_three s (omega arith)
 
           pub heading_whole : {v : Reader} {goal : FactSet} → TookAs TellsSet u goal v → TookHeading room a (record { facts = f; count = c; start = start; goal = goal }) v
-          heading_whole t₄ = (t₁.entry, t₂.entry, t₃.entry, t₄.entry, heading t₁.told t₂.told t₃.told t₄.told, and_one key heading_three t₄.took (λ e. cc))
+          heading_whole t₄ = record { facts = t₁.entry; count = t₂.entry; start = t₃.entry; goal = t₄.entry; tells = heading t₁.told t₂.told t₃.told t₄.told; lines = and_one key heading_three t₄.took (λ e. cc) }
 
   module _ (key : a.expected ≡ Group) {b : Reader} {g : ℕ} (t₁ : TookAs TellsNumber a g b) where
     move_one : TookAll room a (t₁.entry ∷ []) b
@@ -86,12 +86,12 @@ module _ {room : ℕ} {a : Reader} where
           stops_breaks s = stops_now key move_four s (omega arith)
 
           pub move_whole : {w : Reader} {breaks : FactSet} → TookAs TellsSet v breaks w → TookMove room a (record { group = g; price = p; needs = needs; makes = makes; breaks = breaks }) w
-          move_whole t₅ = (
-            t₁.entry,
-            t₂.entry,
-            t₃.entry,
-            t₄.entry,
-            t₅.entry,
-            record { group = t₁.told; price = t₂.told; needs = t₃.told; makes = t₄.told; breaks = t₅.told },
-            and_one key move_four t₅.took (λ e. cc),
-          )
+          move_whole t₅ = record {
+            group = t₁.entry;
+            price = t₂.entry;
+            needs = t₃.entry;
+            makes = t₄.entry;
+            breaks = t₅.entry;
+            tells = record { group = t₁.told; price = t₂.told; needs = t₃.told; makes = t₄.told; breaks = t₅.told };
+            lines = and_one key move_four t₅.took (λ e. cc);
+          }

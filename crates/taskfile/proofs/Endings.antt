@@ -1,5 +1,5 @@
 -- What reading comes to, from its parts.
-use Rattle.std.proofs.Common.{◌≡◌, ℕ, ◌*◌, ◌≤◌, List, [], ◌∷◌, ◌++◌, length, sym, refl, ap, ◌∙◌, subst, inl, inr, arith}
+use Rattle.std.proofs.Common.{◌≡◌, ℕ, ◌+◌, ◌*◌, ◌≤◌, List, [], ◌∷◌, ◌++◌, length, drop, sym, refl, ap, ◌∙◌, subst, inl, inr, arith}
 use Rattle.std.proofs.lemmas.List.{length-drop, nil_from_length}
 use Rattle.tasks.specs.declared.moves.Move.{Move}
 use Rattle.taskfile.specs.declared.heading.Heading.{Heading}
@@ -10,8 +10,8 @@ use Rattle.taskfile.specs.Entries.{Entry, number, members, Fits}
 use Rattle.taskfile.specs.Faults.{Faulty}
 use Rattle.taskfile.specs.Fronts.{key_from, AllGood, Front, announced, due}
 use Rattle.taskfile.specs.Outcomes.{Accepted, Refused}
-use Rattle.taskfile.specs.Steps.{LeftOver, TookAll, StopsBefore, TookHeading, TookMoves, StopsWriting}
-use Rattle.taskfile.specs.Tellings.{TellsHeading, heading, stay}
+use Rattle.taskfile.specs.Steps.{LeftOver, TookAll, StopsIn, StopsBefore, TookHeading, TookMoves, StopsWriting}
+use Rattle.taskfile.specs.Tellings.{TellsHeading, heading, Written, stay}
 use Rattle.taskfile.proofs.Fronting.{all_then, all_stops}
 
 -- more entries tell the same heading, with the same number of moves
@@ -31,74 +31,61 @@ second_good : (room : ℕ) (h : Heading) (f c s g : Entry) → TellsHeading h (f
 second_good room h f (number c) s g (heading tf tc ts tg) fits = let n = fits refl in omega (arith, tc)
 second_good room h f (members c) s g (heading tf tc ts tg) fits = absurd tc
 
-pub ready : (room : ℕ) (a b : Reader) (h : Heading) → a.expected ≡ Facts → TookHeading room a h b → Ready room h b
-ready room a b h key (f, c, s, g, tells, all) =
-    let es : List Entry = f ∷ c ∷ s ∷ g ∷ [] in
-    record {
-      key = all.next ∙ ap (λ k. key_from k es) key;
-      fits = second_good room h f c s g tells (subst (λ k. AllGood room k es) key all.front.good).1.0.fits;
-    }
+abbrev pub first_four : {room : ℕ} {a b : Reader} {h : Heading} → TookHeading room a h b → List Entry
+first_four t = t.facts ∷ t.count ∷ t.start ∷ t.goal ∷ []
 
-module _ (a : Reader) (before : List Move) (key : a.expected ≡ Facts) (line : a.line ≡ 1) where
-  front_at : (es : List Entry) (rest : List ℕ) → Front (length before) a.expected a.rest.now es rest → Front (length before) Facts a.rest.now es rest
-  front_at es rest f = subst (λ k. Front (length before) k a.rest.now es rest) key f
+pub ready : {room : ℕ} {a b : Reader} {h : Heading} → a.expected ≡ Facts → TookHeading room a h b → Ready room h b
+ready {room = room} {h = h} key t = record {
+  key = t.lines.next ∙ ap (λ k. key_from k (first_four t)) key;
+  fits = second_good room h t.facts t.count t.start t.goal t.tells (subst (λ k. AllGood room k (first_four t)) key t.lines.front.good).1.0.fits;
+}
 
-  fault_at : (es : List Entry) (rest : List ℕ) (m : Misread) → Faulty (length before) (key_from a.expected es) rest m.flaw → Faulty (length before) (key_from Facts es) rest m.flaw
-  fault_at es rest m f = subst (λ k. Faulty (length before) (key_from k es) rest m.flaw) key f
-
-  pub refused_heading : (m : Misread) → StopsBefore (length before) a 4 m → Refused a.rest.now before m before
-  refused_heading m (es, s) = record {
+module _ {a : Reader} {before : List Move} (key : a.expected ≡ Facts) (line : a.line ≡ 1) where
+  -- a stop at a line that is due
+  refused : (es : List Entry) (most : ℕ) {m : Misread} {after : List Move} → StopsIn (length before) a most m es → most ≤ due es → Written (drop 4 es) before after → Refused a.rest.now before m after
+  refused es most {m = m} s few w = record {
     entries = es;
     rest = s.rest;
-    text = front_at es s.rest s.front;
-    wrong = inl (omega (arith, s.few), fault_at es s.rest m s.flaw);
+    text = subst (λ k. Front (length before) k a.rest.now es s.rest) key s.front;
+    wrong = inl (omega (arith, s.few), subst (λ k. Faulty (length before) (key_from k es) s.rest m.flaw) key s.flaw);
     line = omega (arith, s.line);
-    moves = stay (omega (arith, s.few, length-drop 4 es));
+    moves = w;
   }
 
-  module _ (b : Reader) (h : Heading) (t : TookHeading (length before) a h b) where
-    first : List Entry
-    first = t.0 ∷ t.1 ∷ t.2 ∷ t.3 ∷ []
+  pub refused_heading : {m : Misread} → StopsBefore (length before) a 4 m → Refused a.rest.now before m before
+  refused_heading (es, s) = refused es 4 s (omega arith) (stay (omega (arith, s.few, length-drop 4 es)))
 
-    pub refused_moves : (after : List Move) (m : Misread) → StopsWriting (length before) h.count b before after m → Refused a.rest.now before m after
-    unfolding first
-    refused_moves after m (fs, w, s) =
-        let u = all_stops (length before) a b (5 * h.count) m first fs t.5 s in
-        record {
-          entries = first ++ fs;
-          rest = u.rest;
-          text = front_at (first ++ fs) u.rest u.front;
-          wrong = inl (omega (arith, u.few, counted h t.0 t.1 t.2 t.3 fs t.4), fault_at (first ++ fs) u.rest m u.flaw);
-          line = omega (arith, u.line);
-          moves = w;
-        }
+  module _ {b : Reader} {h : Heading} (t : TookHeading (length before) a h b) where
+    pub refused_moves : {after : List Move} {m : Misread} → StopsWriting (length before) h.count b before after m → Refused a.rest.now before m after
+    refused_moves {m = m} s =
+        let count = counted h t.facts t.count t.start t.goal s.entries t.tells in
+        refused (first_four t ++ s.entries) (4 + 5 * h.count) (all_stops (length before) a b (5 * h.count) m (first_four t) s.entries t.lines s.stops) (omega arith) s.written
 
-    module _ (d : Reader) (after : List Move) (u : TookMoves (length before) h.count b before after d) where
-      all_lines : TookAll (length before) a (first ++ u.0) d
-      unfolding first
-      all_lines = all_then (length before) a b d first u.0 t.5 u.3
+    module _ {d : Reader} {after : List Move} (u : TookMoves (length before) h.count b before after d) where
+      all_lines : TookAll (length before) a (first_four t ++ u.entries) d
+      all_lines = all_then (length before) a b d (first_four t) u.entries t.lines u.lines
 
-      all_there : length (first ++ u.0) ≡ due (first ++ u.0)
-      unfolding first
-      all_there = omega (arith, u.1, counted h t.0 t.1 t.2 t.3 u.0 t.4)
+      all_there : length (first_four t ++ u.entries) ≡ due (first_four t ++ u.entries)
+      all_there = omega (arith, u.many, counted h t.facts t.count t.start t.goal u.entries t.tells)
+
+      front : Front (length before) Facts a.rest.now (first_four t ++ u.entries) d.rest.now
+      front = subst (λ k. Front (length before) k a.rest.now (first_four t ++ u.entries) d.rest.now) key all_lines.front
 
       pub accepted : length d.rest.now ≡ 0 → Accepted a.rest.now before h after
-      unfolding first
       accepted e = record {
-        entries = first ++ u.0;
-        text = subst (λ r. Front (length before) Facts a.rest.now (first ++ u.0) r) (nil_from_length d.rest.now e) (front_at (first ++ u.0) d.rest.now all_lines.front);
+        entries = first_four t ++ u.entries;
+        text = subst (λ r. Front (length before) Facts a.rest.now (first_four t ++ u.entries) r) (nil_from_length d.rest.now e) front;
         whole = all_there;
-        heading = tells_on h t.0 t.1 t.2 t.3 u.0 t.4;
-        moves = u.2;
+        heading = tells_on h t.facts t.count t.start t.goal u.entries t.tells;
+        moves = u.written;
       }
 
-      pub left_over : (m : Misread) → LeftOver d m → Refused a.rest.now before m after
-      unfolding first
-      left_over m l = record {
-        entries = first ++ u.0;
+      pub left_over : {m : Misread} → LeftOver d m → Refused a.rest.now before m after
+      left_over l = record {
+        entries = first_four t ++ u.entries;
         rest = d.rest.now;
-        text = front_at (first ++ u.0) d.rest.now all_lines.front;
+        text = front;
         wrong = inr (all_there, l.some, l.flaw);
         line = omega (arith, all_lines.count, l.line);
-        moves = u.2;
+        moves = u.written;
       }

@@ -36,39 +36,45 @@ written_wider es before after tail (stay h) = stay h
 written_wider (_ ∷ _ ∷ _ ∷ _ ∷ _ ∷ es) (_ ∷ before) (_ ∷ after) tail (put t w) = put t (written_wider es before after tail w)
 
 -- where the first places of a list are lent, what is written there stands before the others
-module _ (room i n : ℕ) (is : i ≡ n) (a : Reader) (before mid : List Move) (fits : n ≤ length before) where
-  lent : length (take i before) ≡ n
-  lent = omega (arith, is, length-take i before)
+beside : (i : ℕ) (es : List Entry) (before mid : List Move) → Written es (take i before) mid → Written es before (mid ++ drop i before)
+beside i es before mid w = subst (λ l. Written es l (mid ++ drop i before)) (take-append-drop i before) (written_wider es (take i before) mid (drop i before) w)
 
-  beside : (es : List Entry) → Written es (take i before) mid → Written es before (mid ++ drop i before)
-  beside es w = subst (λ l. Written es l (mid ++ drop i before)) (take-append-drop i before) (written_wider es (take i before) mid (drop i before) w)
+module _ {room i n : ℕ} (is : i ≡ n) {a : Reader} {before mid : List Move} (fits : n ≤ length before) where
+  pub took_lent : {b : Reader} → TookMoves room (length (take i before)) a (take i before) mid b → TookMoves room n a before (mid ++ drop i before) b
+  took_lent t = record {
+    entries = t.entries;
+    many = omega (arith, t.many, is, length-take i before);
+    written = beside i t.entries before mid t.written;
+    lines = t.lines;
+  }
 
-  pub took_lent : (b : Reader) → TookMoves room (length (take i before)) a (take i before) mid b → TookMoves room n a before (mid ++ drop i before) b
-  took_lent b t = (t.0, t.1 ∙ ap (λ k. 5 * k) lent, beside t.0 t.2, t.3)
-
-  pub stops_lent : (m : Misread) → StopsWriting room (length (take i before)) a (take i before) mid m → StopsWriting room n a before (mid ++ drop i before) m
-  stops_lent m s = (s.0, beside s.0 s.1, subst (λ k. StopsIn room a (5 * k) m s.0) lent s.2)
+  pub stops_lent : {m : Misread} → StopsWriting room (length (take i before)) a (take i before) mid m → StopsWriting room n a before (mid ++ drop i before) m
+  stops_lent {m = m} s =
+      let lent : length (take i before) ≡ n = omega (arith, is, length-take i before) in
+      record { entries = s.entries; written = beside i s.entries before mid s.written; stops = subst (λ k. StopsIn room a (5 * k) m s.entries) lent s.stops }
 
 pub moves_none : (room : ℕ) (a : Reader) (list : List Move) → TookMoves room 0 a list list a
-moves_none room a list = ([], refl, stay (omega arith), took_none room a)
+moves_none room a list = record { entries = []; many = refl; written = stay (omega arith); lines = took_none room a }
 
-module _ (room i : ℕ) (a b : Reader) (before mid : List Move) (t : TookMoves room i a before mid b) where
-  pub moves_more : (m : Move) (d : Reader) → TookMove room b m d → i < length mid → TookMoves room (i + 1) a before (set mid i m) d
-  moves_more m d (g, p, n, k, j, tells, all) l =
-      let five : List Entry = g ∷ p ∷ n ∷ k ∷ j ∷ [] in (
-        t.0 ++ five,
-        omega (arith, t.1, length-append t.0 five),
-        written_more i t.0 before mid m g p n k j t.2 t.1 l tells,
-        all_then room a b d t.0 five t.3 all,
-      )
+module _ {room i : ℕ} {a b : Reader} {before mid : List Move} (t : TookMoves room i a before mid b) where
+  pub moves_more : {m : Move} {d : Reader} → TookMove room b m d → i < length mid → TookMoves room (i + 1) a before (set mid i m) d
+  moves_more {m = m} {d = d} s l =
+      let five : List Entry = s.group ∷ s.price ∷ s.needs ∷ s.makes ∷ s.breaks ∷ [] in
+      record {
+        entries = t.entries ++ five;
+        many = omega (arith, t.many, length-append t.entries five);
+        written = written_more i t.entries before mid m _ _ _ _ _ t.written t.many l s.tells;
+        lines = all_then room a b d t.entries five t.lines s.lines;
+      }
 
-  pub moves_stop : (moves : ℕ) (m : Misread) → StopsBefore room b 5 m → i < moves → StopsWriting room moves a before mid m
-  moves_stop moves m (fs, s) l =
-      let u = all_stops room a b 5 m t.0 fs t.3 s in (
-        t.0 ++ fs,
-        written_part i t.0 fs before mid t.2 t.1 s.few,
-        record { rest = u.rest; front = u.front; few = omega (arith, u.few, t.1); flaw = u.flaw; line = u.line },
-      )
+  pub moves_stop : {moves : ℕ} {m : Misread} → StopsBefore room b 5 m → i < moves → StopsWriting room moves a before mid m
+  moves_stop {m = m} (fs, s) l =
+      let u = all_stops room a b 5 m t.entries fs t.lines s in
+      record {
+        entries = t.entries ++ fs;
+        written = written_part i t.entries fs before mid t.written t.many s.few;
+        stops = record { rest = u.rest; front = u.front; few = omega (arith, u.few, t.many); flaw = u.flaw; line = u.line };
+      }
 
-pub next_group : (room : ℕ) (b d : Reader) (m : Move) → b.expected ≡ Group → TookMove room b m d → d.expected ≡ Group
-next_group room b d m key (g, p, n, k, j, tells, all) = all.next ∙ ap (λ x. key_from x (g ∷ p ∷ n ∷ k ∷ j ∷ [])) key
+pub next_group : {room : ℕ} {b d : Reader} {m : Move} → b.expected ≡ Group → TookMove room b m d → d.expected ≡ Group
+next_group key s = s.lines.next ∙ ap (λ x. key_from x (s.group ∷ s.price ∷ s.needs ∷ s.makes ∷ s.breaks ∷ [])) key

@@ -80,20 +80,37 @@ pub record StopsIn (room : ℕ) (a : Reader) (most : ℕ) (m : Misread) (es : Li
   pub flaw : Faulty room (key_from a.expected es) rest m.flaw
   pub line : m.line ≡ a.line + length es
 
-abbrev pub TookHeading : ℕ → Reader → Heading → Reader → Type 0
-TookHeading room a h b = (f : Entry) × (c : Entry) × (s : Entry) × (g : Entry) × TellsHeading h (f ∷ c ∷ s ∷ g ∷ []) × TookAll room a (f ∷ c ∷ s ∷ g ∷ []) b
+-- the reader a takes the lines of a heading
+pub record TookHeading (room : ℕ) (a : Reader) (h : Heading) (b : Reader) : Type 0 where
+  pub facts : Entry
+  pub count : Entry
+  pub start : Entry
+  pub goal : Entry
+  pub tells : TellsHeading h (facts ∷ count ∷ start ∷ goal ∷ [])
+  pub lines : TookAll room a (facts ∷ count ∷ start ∷ goal ∷ []) b
 
-abbrev pub TookMove : ℕ → Reader → Move → Reader → Type 0
-TookMove room a m b = (g : Entry) × (p : Entry) × (n : Entry) × (k : Entry) × (i : Entry) × TellsMove m g p n k i × TookAll room a (g ∷ p ∷ n ∷ k ∷ i ∷ []) b
+-- the reader a takes the lines of a move
+pub record TookMove (room : ℕ) (a : Reader) (m : Move) (b : Reader) : Type 0 where
+  pub group : Entry
+  pub price : Entry
+  pub needs : Entry
+  pub makes : Entry
+  pub breaks : Entry
+  pub tells : TellsMove m group price needs makes breaks
+  pub lines : TookAll room a (group ∷ price ∷ needs ∷ makes ∷ breaks ∷ []) b
 
 -- the reader a takes the lines of this many moves, which are written to the list
-abbrev pub TookMoves : ℕ → ℕ → Reader → List Move → List Move → Reader → Type 0
-TookMoves room moves a before after b =
-    (es : List Entry) × (length es ≡ 5 * moves) × Written es before after × TookAll room a es b
+pub record TookMoves (room moves : ℕ) (a : Reader) (before after : List Move) (b : Reader) : Type 0 where
+  pub entries : List Entry
+  pub many : length entries ≡ 5 * moves
+  pub written : Written entries before after
+  pub lines : TookAll room a entries b
 
 abbrev pub StopsBefore : ℕ → Reader → ℕ → Misread → Type 0
 StopsBefore room a most m = (es : List Entry) × StopsIn room a most m es
 
 -- the moves that the reader takes before it stops are written to the list
-abbrev pub StopsWriting : ℕ → ℕ → Reader → List Move → List Move → Misread → Type 0
-StopsWriting room moves a before after m = (es : List Entry) × Written es before after × StopsIn room a (5 * moves) m es
+pub record StopsWriting (room moves : ℕ) (a : Reader) (before after : List Move) (m : Misread) : Type 0 where
+  pub entries : List Entry
+  pub written : Written entries before after
+  pub stops : StopsIn room a (5 * moves) m entries

@@ -5,34 +5,24 @@ use Rattle.taskfile.proofs.Filling.{took_lent, stops_lent}
 use Rattle.taskfile.proofs.reader.reading.read_lines.Goals as goal
 
 pub returns-in_err-heading : goal.returns-in_err-heading
-returns-in_err-heading c =
-    rw (exits c.from_residual.ensures.1) (refused_heading _ c.args.moves.now refl refl _ c.in_err-heading.ensures)
+returns-in_err-heading c = rw (exits c.from_residual.ensures.1) (refused_heading refl refl c.in_err-heading.ensures)
 
 pub read_moves-requires : goal.read_moves-requires
-read_moves-requires c = (ready _ _ c.read_heading.new.reader c.in_ok-heading.heading refl c.in_ok-heading.ensures).key
+read_moves-requires c = (ready refl c.in_ok-heading.ensures).key
 
 pub returns-in_err-read_moves : goal.returns-in_err-read_moves
 returns-in_err-read_moves c =
-    let h = c.in_ok-heading.heading in
-    let b = c.read_heading.new.reader in
-    let r = ready _ _ b h refl c.in_ok-heading.ensures in
+    let h = c.in_ok-heading.ensures in
     rw (exits c.from_residual-in_err-read_moves.ensures.1)
-    (refused_moves _ c.args.moves.now refl refl b h c.in_ok-heading.ensures _ _
-        (stops_lent _ c.from.result h.count (search rules) b c.args.moves.now c.read_moves.new.moves r.fits _ (c.in_err-read_moves.ensures _)))
+    (refused_moves refl refl h (stops_lent (search rules) (ready refl h).fits (c.in_err-read_moves.ensures _)))
 
 pub returns-in_err-end : goal.returns-in_err-end
 returns-in_err-end c =
-    let h = c.in_ok-heading.heading in
-    let b = c.read_heading.new.reader in
-    let r = ready _ _ b h refl c.in_ok-heading.ensures in
+    let h = c.in_ok-heading.ensures in
     rw (exits c.from_residual-in_err-end.ensures.1)
-    (left_over _ c.args.moves.now refl refl b h c.in_ok-heading.ensures c.read_moves.new.reader _
-        (took_lent _ c.from.result h.count (search rules) b c.args.moves.now c.read_moves.new.moves r.fits _ (c.in_ok-read_moves.ensures _)) _ c.in_err-end.ensures)
+    (left_over refl refl h (took_lent (search rules) (ready refl h).fits (c.in_ok-read_moves.ensures _)) c.in_err-end.ensures)
 
 pub returns : goal.returns
 returns c =
-    let h = c.in_ok-heading.heading in
-    let b = c.read_heading.new.reader in
-    let r = ready _ _ b h refl c.in_ok-heading.ensures in
-    accepted _ c.args.moves.now refl refl b h c.in_ok-heading.ensures c.read_moves.new.reader _
-        (took_lent _ c.from.result h.count (search rules) b c.args.moves.now c.read_moves.new.moves r.fits _ (c.in_ok-read_moves.ensures _)) c.in_ok-end.ensures
+    let h = c.in_ok-heading.ensures in
+    accepted refl refl h (took_lent (search rules) (ready refl h).fits (c.in_ok-read_moves.ensures _)) c.in_ok-end.ensures

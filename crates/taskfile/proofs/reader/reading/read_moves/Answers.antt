@@ -10,16 +10,14 @@ loop-place-init c = record { taken = λ room. moves_none room c.args.reader.now 
 
 pub returns-in_err-place : goal.returns-in_err-place
 returns-in_err-place c =
-    let l = c.loop-place in
     rw (exits c.from_residual.ensures.1, set-get_or)
-    (λ room. moves_stop room l.place-index _ l.reader _ l.moves (l.invariant.taken room) _ _ (c.in_err-place.ensures room) (omega arith))
+    (λ room. moves_stop (c.loop-place.invariant.taken room) (c.in_err-place.ensures room) (omega arith))
 
 pub loop-place-preserved : goal.loop-place-preserved
-loop-place-preserved c =
-    let l = c.loop-place in record {
-      taken = λ room. moves_more room l.place-index _ l.reader _ l.moves (l.invariant.taken room) _ _ (c.in_ok-place.ensures room) (omega arith);
-      due = next_group 0 l.reader _ _ l.invariant.due (c.in_ok-place.ensures 0);
-    }
+loop-place-preserved c = record {
+  taken = λ room. moves_more (c.loop-place.invariant.taken room) (c.in_ok-place.ensures room) (omega arith);
+  due = next_group c.loop-place.invariant.due (c.in_ok-place.ensures 0);
+}
 
 pub returns : goal.returns
 returns c = λ room.
