@@ -50,30 +50,58 @@ fn read_lines(bytes: &[u8], moves: &mut [Move]) -> Result<Heading, Misread>
         rest: bytes,
         line: 1,
     };
-    let heading = read_heading(&mut reader, moves.len())?;
-    read_moves(&mut reader, &mut moves[..usize::from(heading.count)])?;
+    let heading = reader.read_heading(moves.len())?;
+    reader.read_moves(&mut moves[..usize::from(heading.count)])?;
     reader.end()?;
     Ok(heading)
 }
 
-// The first four lines.
-fn read_heading(reader: &mut Reader<'_>, room: usize) -> Result<Heading, Misread>
-    requires expected_value { reader.old.expected ≡ Key.Facts }
-    requires line_value { reader.old.line ≡ 1 }
-    ensures { MatchResult result (λ h. TookHeading room reader.old h reader.new) (StopsBefore room reader.old 4) }
-{
-    let facts: u32 = reader.next()?;
-    let count: u32 = reader.next()?;
-    fit(count, room)?;
-    let start = reader.next()?;
-    let goal = reader.next()?;
-    // `as` is proved to lose nothing; a `try_from` could fail
-    Ok(Heading {
-        facts: facts as u8,
-        count: count as u16,
-        start,
-        goal,
-    })
+impl Reader<'_> {
+    // The first four lines.
+    fn read_heading(&mut self, room: usize) -> Result<Heading, Misread>
+        requires expected_value { self.old.expected ≡ Key.Facts }
+        requires line_value { self.old.line ≡ 1 }
+        ensures { MatchResult result (λ h. TookHeading room self.old h self.new) (StopsBefore room self.old 4) }
+    {
+        let facts: u32 = self.next()?;
+        let count: u32 = self.next()?;
+        fit(count, room)?;
+        let start = self.next()?;
+        let goal = self.next()?;
+        // `as` is proved to lose nothing; a `try_from` could fail
+        Ok(Heading {
+            facts: facts as u8,
+            count: count as u16,
+            start,
+            goal,
+        })
+    }
+
+    // The moves go to the places of the list, one after another.
+    fn read_moves(&mut self, moves: &mut [Move]) -> Result<(), Misread>
+        requires { self.old.expected ≡ Key.Group }
+        ensures { MatchResult result (λ _. (room : ℕ) → TookMoves room (length moves.old) self.old moves.old moves.new self.new) (λ e. (room : ℕ) → StopsWriting room (length moves.old) self.old moves.old moves.new e) }
+    {
+        for place in moves.iter_mut() {
+            *place = self.read_move()?;
+        }
+        Ok(())
+    }
+
+    // The next five lines.
+    fn read_move(&mut self) -> Result<Move, Misread>
+        requires { self.old.expected ≡ Key.Group }
+        ensures { MatchResult result (λ m. (room : ℕ) → TookMove room self.old m self.new) (λ e. (room : ℕ) → StopsBefore room self.old 5 e) }
+    {
+        // `as` is proved to lose nothing; a `try_from` could fail
+        Ok(Move {
+            group: self.next::<u32>()? as u8,
+            price: self.next::<u32>()? as u16,
+            needs: self.next()?,
+            makes: self.next()?,
+            breaks: self.next()?,
+        })
+    }
 }
 
 // The second line may tell at most as many moves as there is room for.
@@ -86,31 +114,5 @@ fn fit(count: u32, room: usize) -> Result<(), Misread>
     Err(Misread {
         flaw: Flaw::TooManyMoves,
         line: 2,
-    })
-}
-
-// The moves go to the places of the list, one after another.
-fn read_moves(reader: &mut Reader<'_>, moves: &mut [Move]) -> Result<(), Misread>
-    requires { reader.old.expected ≡ Key.Group }
-    ensures { MatchResult result (λ _. (room : ℕ) → TookMoves room (length moves.old) reader.old moves.old moves.new reader.new) (λ e. (room : ℕ) → StopsWriting room (length moves.old) reader.old moves.old moves.new e) }
-{
-    for place in moves.iter_mut() {
-        *place = read_move(reader)?;
-    }
-    Ok(())
-}
-
-// The next five lines.
-fn read_move(reader: &mut Reader<'_>) -> Result<Move, Misread>
-    requires { reader.old.expected ≡ Key.Group }
-    ensures { MatchResult result (λ m. (room : ℕ) → TookMove room reader.old m reader.new) (λ e. (room : ℕ) → StopsBefore room reader.old 5 e) }
-{
-    // `as` is proved to lose nothing; a `try_from` could fail
-    Ok(Move {
-        group: reader.next::<u32>()? as u8,
-        price: reader.next::<u32>()? as u16,
-        needs: reader.next()?,
-        makes: reader.next()?,
-        breaks: reader.next()?,
     })
 }

@@ -1,7 +1,7 @@
 use Rattle.std.proofs.Common.{arith}
 use Rattle.taskfile.proofs.Exits.{exits}
 use Rattle.taskfile.proofs.Beginning.{stops_first, stops_second, stops_full, stops_third, stops_fourth, heading_whole}
-use Rattle.taskfile.proofs.reader.reading.read_heading.Goals as goal
+use Rattle.taskfile.proofs.reader.Reader.read_heading.Goals as goal
 
 pub returns-in_err-facts : goal.returns-in_err-facts
 returns-in_err-facts c = rw (exits c.from_residual.ensures.1) (stops_first c.in_err-facts.ensures (omega arith))

@@ -1,7 +1,7 @@
 use Rattle.std.proofs.Common.{arith}
 use Rattle.taskfile.proofs.Exits.{exits}
 use Rattle.taskfile.proofs.Beginning.{stops_first, stops_price, stops_needs, stops_makes, stops_breaks, move_whole}
-use Rattle.taskfile.proofs.reader.reading.read_move.Goals as goal
+use Rattle.taskfile.proofs.reader.Reader.read_move.Goals as goal
 
 pub returns-in_err-next : goal.returns-in_err-next
 returns-in_err-next c = rw (exits c.from_residual.ensures.1) (λ room. stops_first c.in_err-next.ensures (omega arith))

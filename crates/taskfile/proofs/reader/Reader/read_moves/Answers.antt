@@ -3,10 +3,10 @@ use Rattle.std.proofs.lemmas.List.{set-get_or}
 use Rattle.taskfile.specs.Steps.{TookMoves}
 use Rattle.taskfile.proofs.Exits.{exits}
 use Rattle.taskfile.proofs.Filling.{moves_none, moves_more, moves_stop, next_group}
-use Rattle.taskfile.proofs.reader.reading.read_moves.Goals as goal
+use Rattle.taskfile.proofs.reader.Reader.read_moves.Goals as goal
 
 pub loop-place-init : goal.loop-place-init
-loop-place-init c = record { taken = λ room. moves_none room c.args.reader.now c.args.moves.now; due = c.requires }
+loop-place-init c = record { taken = λ room. moves_none room c.args.self.now c.args.moves.now; due = c.requires }
 
 pub returns-in_err-place : goal.returns-in_err-place
 returns-in_err-place c =
@@ -23,4 +23,4 @@ pub returns : goal.returns
 returns c = λ room.
     let l = c.loop-place in
     let whole : l.place-index ≡ length c.args.moves.now = omega arith in
-    subst (λ i. TookMoves room i c.args.reader.now c.args.moves.now l.moves l.reader) whole (l.invariant.taken room)
+    subst (λ i. TookMoves room i c.args.self.now c.args.moves.now l.moves l.self) whole (l.invariant.taken room)
