@@ -20,16 +20,16 @@ returns-in_err-read c =
     let z = c.in-Some.ensures.steps in
     rw (exits c.from_residual.ensures.1, f.0)
     (left_refused c.args.v.now l.read c.next.new.self.done l.item-iterator.rest.now c.in-Some.item.now c.next.new.self.rest.now
-        (subst (λ d. Left c.args.v.now l.read d l.item-iterator.rest.now) z.0 l.invariant)
-        (z.1, (z.2 (λ b. eqb b 44) (answers_always _ _ _ (λ f a r g h. search rules))).1) f.1)
+    (subst (λ d. Left c.args.v.now l.read d l.item-iterator.rest.now) z.0 l.invariant)
+    (z.1, (z.2 (λ b. eqb b 44) (answers_always _ _ _ (λ f a r g h. search rules))).1) f.1)
 
 pub loop-item-preserved : goal.loop-item-preserved
 loop-item-preserved c =
     let l = c.loop-item in
     let z = c.in-Some.ensures.steps in
     left_more c.args.v.now l.read c.in_ok-read.read c.next.new.self.done l.item-iterator.rest.now c.in-Some.item.now c.next.new.self.rest.now
-        (subst (λ d. Left c.args.v.now l.read d l.item-iterator.rest.now) z.0 l.invariant)
-        (z.1, (z.2 (λ b. eqb b 44) (answers_always _ _ _ (λ f a r g h. search rules))).1) c.in_ok-read.ensures
+    (subst (λ d. Left c.args.v.now l.read d l.item-iterator.rest.now) z.0 l.invariant)
+    (z.1, (z.2 (λ b. eqb b 44) (answers_always _ _ _ (λ f a r g h. search rules))).1) c.in_ok-read.ensures
 
 pub returns : goal.returns
 returns c =

@@ -1,5 +1,4 @@
 use Rattle.std.proofs.Common.{refl, ap, ◌∙◌}
-
 use Rattle.taskfile.specs.Entries.{number}
 use Rattle.taskfile.specs.Values.{written}
 use Rattle.taskfile.proofs.numbers.U32FromValue.from_value.Goals as goal
