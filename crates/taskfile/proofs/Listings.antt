@@ -173,10 +173,6 @@ start s a v l z none some (Err OutOfRange) (n, ns, i, f) =
     (n ∷ ns, record { text = i.text; rising = rising_rises 0 (n ∷ ns) (subst (λ x. Rising x (n ∷ ns)) l i.rising); short = i.short }, f a z)
 start s a v l z none some (Err TooManyMoves) f = f
 
-pub nothing : (v : List ℕ) (s : FactSet) → length v ≡ 0 → Empty s → SetRead v (Ok s)
-nothing [] s e none = ([], record { text = refl; rising = tt; short = tt }, tt, lists_adds s s [] none tt (adds_none s))
-nothing (x ∷ v) s e none = absurd (omega arith)
-
 -- what is right of the whole text v where s is read, and rest is left unless the last item is taken
 abbrev pub Left : List ℕ → Listing → Bool → List ℕ → Type 0
 Left v s false rest = (r : Result FactSet Flaw) → From s rest r → SetRead v r

@@ -4,9 +4,6 @@ use Rattle.taskfile.proofs.Exits.{exits}
 use Rattle.taskfile.proofs.Listings.{Left, start, nothing, left_more, left_refused}
 use Rattle.taskfile.proofs.sets.set.Goals as goal
 
-pub returns-then-is_empty : goal.returns-then-is_empty
-returns-then-is_empty c = nothing c.args.v.now _ (true-eqb _ 0 c.if-is_empty.ensures) c.empty.ensures
-
 pub loop-item-init : goal.loop-item-init
 loop-item-init c =
     let first = c.split-item-items.ensures in
@@ -30,9 +27,3 @@ loop-item-preserved c =
     left_more c.args.v.now l.read c.in_ok-read.read c.next.new.self.done l.item-iterator.rest.now c.in-Some.item.now c.next.new.self.rest.now
     (subst (λ d. Left c.args.v.now l.read d l.item-iterator.rest.now) z.0 l.invariant)
     (z.1, (z.2 (λ b. eqb b 44) (answers_always _ _ _ (λ f a r g h. search rules))).1) c.in_ok-read.ensures
-
-pub returns : goal.returns
-returns c =
-    let l = c.loop-item in
-    rw c.ok_or.ensures.value
-    (subst (λ d. Left c.args.v.now l.read d l.item-iterator.rest.now) c.in-None.ensures.steps.0 l.invariant)

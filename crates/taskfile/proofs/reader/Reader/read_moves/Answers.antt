@@ -1,6 +1,5 @@
-use Rattle.std.proofs.Common.{◌≡◌, length, subst, arith}
+use Rattle.std.proofs.Common.{arith}
 use Rattle.std.proofs.lemmas.List.{set-get_or}
-use Rattle.taskfile.specs.Steps.{TookMoves}
 use Rattle.taskfile.proofs.Exits.{exits}
 use Rattle.taskfile.proofs.Filling.{moves_none, moves_more, moves_stop, next_group}
 use Rattle.taskfile.proofs.reader.Reader.read_moves.Goals as goal
@@ -18,9 +17,3 @@ loop-place-preserved c = record {
   taken = λ room. moves_more (c.loop-place.invariant.taken room) (c.in_ok-place.ensures room) (omega arith);
   due = next_group c.loop-place.invariant.due (c.in_ok-place.ensures 0);
 }
-
-pub returns : goal.returns
-returns c = λ room.
-    let l = c.loop-place in
-    let whole : l.place-index ≡ length c.args.moves.now = omega arith in
-    subst (λ i. TookMoves room i c.args.self.now c.args.moves.now l.moves l.self) whole (l.invariant.taken room)

@@ -7,9 +7,6 @@ use Rattle.taskfile.proofs.reader.reading.read_lines.Goals as goal
 pub returns-in_err-heading : goal.returns-in_err-heading
 returns-in_err-heading c = rw (exits c.from_residual.ensures.1) (refused_heading refl refl c.in_err-heading.ensures)
 
-pub read_moves-requires : goal.read_moves-requires
-read_moves-requires c = (ready refl c.in_ok-heading.ensures).key
-
 pub returns-in_err-read_moves : goal.returns-in_err-read_moves
 returns-in_err-read_moves c =
     let h = c.in_ok-heading.ensures in
