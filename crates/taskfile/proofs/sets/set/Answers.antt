@@ -1,7 +1,7 @@
-use Rattle.std.proofs.Common.{rules, eqb, refl, subst, arith, true-eqb, false-eqb}
+use Rattle.std.proofs.Common.{rules, eqb, refl, subst, arith, false-eqb}
 use Rattle.std.proofs.lemmas.List.Sorted.{answers_always}
 use Rattle.taskfile.proofs.Exits.{exits}
-use Rattle.taskfile.proofs.Listings.{Left, start, nothing, left_more, left_refused}
+use Rattle.taskfile.proofs.Listings.{Left, start, left_more, left_refused}
 use Rattle.taskfile.proofs.sets.set.Goals as goal
 
 pub loop-item-init : goal.loop-item-init
