@@ -17,7 +17,6 @@ use Rattle.taskfile.specs.Keys.{one_number, highest}
 use Rattle.taskfile.specs.Outcomes.{Accepted, Outcome}
 use Rattle.taskfile.specs.Tellings.{heading, Written, stay, put}
 use Rattle.taskfile.specs.Texts.{keep, facts_from, set_entry, move_entries, entries_of, text_of, heading_of, SetBetween, MoveBetween, DraftBetween, ReadsBack}
-use Rattle.taskfile.proofs.Fronting.{facts_other, group_other, price_other}
 use Rattle.taskfile.proofs.Unique.{one_outcome}
 
 -- what is kept
@@ -84,9 +83,9 @@ good_set room k s kind h = record {
 good_moves : (room : ℕ) (ms : List Move) → AllByRecursion MoveBetween ms → AllGood room Group (move_entries ms)
 good_moves room [] h = tt
 good_moves room (m ∷ ms) h = (
-  record { formed = (refl, omega (arith, h.0.group.1)); inside = h.0.group; fits = λ e. absurd (group_other e) },
+  record { formed = (refl, omega (arith, h.0.group.1)); inside = h.0.group; fits = λ e. absurd (cc) },
   (
-    record { formed = (refl, omega (arith, h.0.price.1)); inside = h.0.price; fits = λ e. absurd (price_other e) },
+    record { formed = (refl, omega (arith, h.0.price.1)); inside = h.0.price; fits = λ e. absurd (cc) },
     (
       good_set room Needs m.needs refl h.0.needs,
       (
@@ -122,7 +121,7 @@ accepted_text d before h l = record {
   text = record {
     text = sym (append-nil (text_of d));
     good = (
-      record { formed = (refl, omega (arith, h.facts.1)); inside = h.facts; fits = λ e. absurd (facts_other e) },
+      record { formed = (refl, omega (arith, h.facts.1)); inside = h.facts; fits = λ e. absurd (cc) },
       (
         record { formed = (refl, omega (arith, h.count.1)); inside = h.count; fits = λ _. l },
         (

@@ -1,101 +1,97 @@
 -- The lines of a heading, and those of a move, as far as they are read.
 use Rattle.std.proofs.Common.{◌≡◌, ℕ, ◌<◌, ◌≤◌, [], ◌∷◌, sym, refl, ap, ◌∙◌, subst, arith}
 use Rattle.facts.specs.declared.sets.FactSet.{FactSet}
-use Rattle.taskfile.specs.declared.keys.Key.TheVariants.{Facts, Moves, Group, Price}
+use Rattle.taskfile.specs.declared.keys.Key.{Key}
+use Rattle.taskfile.specs.declared.keys.Key.TheVariants.{Facts, Moves, Group}
 use Rattle.taskfile.specs.declared.misread.Misread.{Misread}
 use Rattle.taskfile.specs.declared.reader.Reader.{Reader}
-use Rattle.taskfile.specs.Entries.{number, members}
+use Rattle.taskfile.specs.Entries.{Entry, number, members, Fits}
 use Rattle.taskfile.specs.Faults.{Faulty}
 use Rattle.taskfile.specs.Keys.{after}
-use Rattle.taskfile.specs.Steps.{TooMany, TookNumber, TookSet, Stops, TookAll, StopsBefore, TookHeading, TookMove}
-use Rattle.taskfile.specs.Tellings.{heading}
-use Rattle.taskfile.proofs.Fronting.{one, all_then, all_stops, stops_now, stops_here, fits_other, facts_other, group_other, price_other}
+use Rattle.taskfile.specs.Steps.{TooMany, TookAs, Stops, TookAll, StopsBefore, TookHeading, TookMove}
+use Rattle.taskfile.specs.Tellings.{TellsNumber, TellsSet, heading}
+use Rattle.taskfile.proofs.Fronting.{one, all_then, took_none, and_one, stops_here, stops_now}
 
--- a set's line always fits
-one_set : (room : ℕ) (a b : Reader) (s : FactSet) (t : TookSet a s b) → TookAll room a (members t.0 ∷ []) b
-one_set room a b s t = one room a b (members t.0) t.2 tt
+fits_count : (room : ℕ) (k : Key) (c : ℕ) (e : Entry) → TellsNumber c e → c ≤ room → Fits room k e
+fits_count room k c (number n) t h = λ _. omega (arith, t)
+fits_count room k c (members ns) t h = absurd t
 
-module _ (room : ℕ) (a b : Reader) (key : a.expected ≡ Facts) (f : ℕ) (t₁ : TookNumber a f b) where
-  heading_one : TookAll room a (number f ∷ []) b
-  heading_one = one room a b (number f) t₁ (fits_other room a.expected Facts f key facts_other)
+fits_no_more : (room : ℕ) (k : Key) (c : ℕ) (e : Entry) → TellsNumber c e → k ≡ Moves → room < c → Fits room k e → ⊥
+fits_no_more room k c (number n) t key h fits = let q = fits key in omega (arith, t)
+fits_no_more room k c (members ns) t key h fits = t
 
-  second_key : b.expected ≡ Moves
-  second_key = t₁.moved.next ∙ ap after key
+module _ {room : ℕ} {a : Reader} where
+  -- at the first line
+  pub stops_first : {most : ℕ} {m : Misread} → Stops a m → 0 < most → StopsBefore room a most m
+  stops_first s h = stops_now refl (took_none room a) s h
 
-  pub stops_second : (m : Misread) → Stops b m → StopsBefore room a 4 m
-  stops_second m s = (number f ∷ [], all_stops room a b 3 m (number f ∷ []) [] heading_one (stops_now room 3 b m s (omega arith)))
+  module _ (key : a.expected ≡ Facts) {b : Reader} {f : ℕ} (t₁ : TookAs TellsNumber a f b) where
+    heading_one : TookAll room a (t₁.entry ∷ []) b
+    heading_one = and_one key (took_none room a) t₁.took (λ e. cc)
 
-  module _ (d : Reader) (c : ℕ) (t₂ : TookNumber b c d) where
-    pub stops_full : (m : Misread) → a.line ≡ 1 → room < c → TooMany m → StopsBefore room a 4 m
-    stops_full m l h t = (
-      number f ∷ [],
-      all_stops room a b 3 m (number f ∷ []) [] heading_one
-          (stops_here room 3 b m
-          (subst (Faulty room b.expected b.rest.now) (sym t.flaw) (number c, (d.rest.now, t₂.text), t₂.formed, t₂.inside, λ fits. let q = fits second_key in omega arith))
-          (omega (arith, t.line, t₁.moved.count)) (omega arith)),
-    )
+    pub stops_second : {m : Misread} → Stops b m → StopsBefore room a 4 m
+    stops_second s = stops_now key heading_one s (omega arith)
 
-    module _ (fit : c ≤ room) where
-      heading_two : TookAll room a (number f ∷ number c ∷ []) d
-      heading_two = all_then room a b d (number f ∷ []) (number c ∷ []) heading_one (one room b d (number c) t₂ (λ _. fit))
+    module _ {d : Reader} {c : ℕ} (t₂ : TookAs TellsNumber b c d) where
+      pub stops_full : {m : Misread} → a.line ≡ 1 → room < c → TooMany m → StopsBefore room a 4 m
+      stops_full l h t =
+          let none = fits_no_more room b.expected c t₂.entry t₂.told (t₁.took.moved.next ∙ ap after key) h in
+          stops_here key heading_one
+          (subst (Faulty room b.expected b.rest.now) (sym t.flaw) (t₂.entry, (d.rest.now, t₂.took.text), t₂.took.formed, t₂.took.inside, none))
+          (omega (arith, t.line, t₁.took.moved.count)) (omega arith)
 
-      pub stops_third : (m : Misread) → Stops d m → StopsBefore room a 4 m
-      stops_third m s = (_, all_stops room a d 2 m _ [] heading_two (stops_now room 2 d m s (omega arith)))
+      module _ (fit : c ≤ room) where
+        heading_two : TookAll room a (t₁.entry ∷ t₂.entry ∷ []) d
+        heading_two = all_then room a b d _ _ heading_one (one room b d t₂.entry t₂.took (fits_count room b.expected c t₂.entry t₂.told fit))
 
-      module _ (u : Reader) (start : FactSet) (t₃ : TookSet d start u) where
-        heading_three : TookAll room a (number f ∷ number c ∷ members t₃.0 ∷ []) u
-        heading_three = all_then room a d u _ _ heading_two (one_set room d u start t₃)
+        pub stops_third : {m : Misread} → Stops d m → StopsBefore room a 4 m
+        stops_third s = stops_now key heading_two s (omega arith)
 
-        pub stops_fourth : (m : Misread) → Stops u m → StopsBefore room a 4 m
-        stops_fourth m s = (_, all_stops room a u 1 m _ [] heading_three (stops_now room 1 u m s (omega arith)))
+        module _ {u : Reader} {start : FactSet} (t₃ : TookAs TellsSet d start u) where
+          heading_three : TookAll room a (t₁.entry ∷ t₂.entry ∷ t₃.entry ∷ []) u
+          heading_three = and_one key heading_two t₃.took (λ e. cc)
 
-        pub heading_whole : (v : Reader) (goal : FactSet) → TookSet u goal v → TookHeading room a (record { facts = f; count = c; start = start; goal = goal }) v
-        heading_whole v goal t₄ = (
-          number f ∷ number c ∷ members t₃.0 ∷ members t₄.0 ∷ [],
-          heading refl refl t₃.1 t₄.1,
-          refl,
-          all_then room a u v _ _ heading_three (one_set room u v goal t₄),
-        )
+          pub stops_fourth : {m : Misread} → Stops u m → StopsBefore room a 4 m
+          stops_fourth s = stops_now key heading_three s (omega arith)
 
-module _ (room : ℕ) (a b : Reader) (key : a.expected ≡ Group) (g : ℕ) (t₁ : TookNumber a g b) where
-  move_one : TookAll room a (number g ∷ []) b
-  move_one = one room a b (number g) t₁ (fits_other room a.expected Group g key group_other)
+          pub heading_whole : {v : Reader} {goal : FactSet} → TookAs TellsSet u goal v → TookHeading room a (record { facts = f; count = c; start = start; goal = goal }) v
+          heading_whole t₄ = record { facts = t₁.entry; count = t₂.entry; start = t₃.entry; goal = t₄.entry; tells = heading t₁.told t₂.told t₃.told t₄.told; lines = and_one key heading_three t₄.took (λ e. cc) }
 
-  pub stops_price : (m : Misread) → Stops b m → StopsBefore room a 5 m
-  stops_price m s = (_, all_stops room a b 4 m _ [] move_one (stops_now room 4 b m s (omega arith)))
+  module _ (key : a.expected ≡ Group) {b : Reader} {g : ℕ} (t₁ : TookAs TellsNumber a g b) where
+    move_one : TookAll room a (t₁.entry ∷ []) b
+    move_one = and_one key (took_none room a) t₁.took (λ e. cc)
 
-  module _ (d : Reader) (p : ℕ) (t₂ : TookNumber b p d) where
-    move_two : TookAll room a (number g ∷ number p ∷ []) d
-    move_two = all_then room a b d _ _ move_one (one room b d (number p) t₂ (fits_other room b.expected Price p (t₁.moved.next ∙ ap after key) price_other))
+    pub stops_price : {m : Misread} → Stops b m → StopsBefore room a 5 m
+    stops_price s = stops_now key move_one s (omega arith)
 
-    pub stops_needs : (m : Misread) → Stops d m → StopsBefore room a 5 m
-    stops_needs m s = (_, all_stops room a d 3 m _ [] move_two (stops_now room 3 d m s (omega arith)))
+    module _ {d : Reader} {p : ℕ} (t₂ : TookAs TellsNumber b p d) where
+      move_two : TookAll room a (t₁.entry ∷ t₂.entry ∷ []) d
+      move_two = and_one key move_one t₂.took (λ e. cc)
 
-    module _ (u : Reader) (needs : FactSet) (t₃ : TookSet d needs u) where
-      move_three : TookAll room a (number g ∷ number p ∷ members t₃.0 ∷ []) u
-      move_three = all_then room a d u _ _ move_two (one_set room d u needs t₃)
+      pub stops_needs : {m : Misread} → Stops d m → StopsBefore room a 5 m
+      stops_needs s = stops_now key move_two s (omega arith)
 
-      pub stops_makes : (m : Misread) → Stops u m → StopsBefore room a 5 m
-      stops_makes m s = (_, all_stops room a u 2 m _ [] move_three (stops_now room 2 u m s (omega arith)))
+      module _ {u : Reader} {needs : FactSet} (t₃ : TookAs TellsSet d needs u) where
+        move_three : TookAll room a (t₁.entry ∷ t₂.entry ∷ t₃.entry ∷ []) u
+        move_three = and_one key move_two t₃.took (λ e. cc)
 
-      module _ (v : Reader) (makes : FactSet) (t₄ : TookSet u makes v) where
-        move_four : TookAll room a (number g ∷ number p ∷ members t₃.0 ∷ members t₄.0 ∷ []) v
-        move_four = all_then room a u v _ _ move_three (one_set room u v makes t₄)
+        pub stops_makes : {m : Misread} → Stops u m → StopsBefore room a 5 m
+        stops_makes s = stops_now key move_three s (omega arith)
 
-        pub stops_breaks : (m : Misread) → Stops v m → StopsBefore room a 5 m
-        stops_breaks m s = (_, all_stops room a v 1 m _ [] move_four (stops_now room 1 v m s (omega arith)))
+        module _ {v : Reader} {makes : FactSet} (t₄ : TookAs TellsSet u makes v) where
+          move_four : TookAll room a (t₁.entry ∷ t₂.entry ∷ t₃.entry ∷ t₄.entry ∷ []) v
+          move_four = and_one key move_three t₄.took (λ e. cc)
 
-        pub move_whole : (w : Reader) (breaks : FactSet) → TookSet v breaks w → TookMove room a (record { group = g; price = p; needs = needs; makes = makes; breaks = breaks }) w
-        move_whole w breaks t₅ = (
-          number g,
-          number p,
-          members t₃.0,
-          members t₄.0,
-          members t₅.0,
-          record { group = refl; price = refl; needs = t₃.1; makes = t₄.1; breaks = t₅.1 },
-          all_then room a v w _ _ move_four (one_set room v w breaks t₅),
-        )
+          pub stops_breaks : {m : Misread} → Stops v m → StopsBefore room a 5 m
+          stops_breaks s = stops_now key move_four s (omega arith)
 
--- the heading's lines are the first four
-pub stops_first : (room most : ℕ) (a : Reader) (m : Misread) → Stops a m → 0 < most → StopsBefore room a most m
-stops_first room most a m s h = ([], stops_now room most a m s h)
+          pub move_whole : {w : Reader} {breaks : FactSet} → TookAs TellsSet v breaks w → TookMove room a (record { group = g; price = p; needs = needs; makes = makes; breaks = breaks }) w
+          move_whole t₅ = record {
+            group = t₁.entry;
+            price = t₂.entry;
+            needs = t₃.entry;
+            makes = t₄.entry;
+            breaks = t₅.entry;
+            tells = record { group = t₁.told; price = t₂.told; needs = t₃.told; makes = t₄.told; breaks = t₅.told };
+            lines = and_one key move_four t₅.took (λ e. cc);
+          }

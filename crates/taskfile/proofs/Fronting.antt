@@ -2,14 +2,14 @@
 use Rattle.std.proofs.Common.{◌≡◌, ℕ, ◌+◌, ◌<◌, List, [], ◌∷◌, ◌++◌, length, sym, refl, ap, ◌∙◌, subst, append_assoc, arith}
 use Rattle.std.proofs.lemmas.List.{append-nil, length-append}
 use Rattle.taskfile.specs.declared.keys.Key.{Key}
-use Rattle.taskfile.specs.declared.keys.Key.TheVariants.{Facts, Moves, Group, Price}
+use Rattle.taskfile.specs.declared.keys.Key.TheVariants.{Moves}
 use Rattle.taskfile.specs.declared.misread.Misread.{Misread}
 use Rattle.taskfile.specs.declared.reader.Reader.{Reader}
-use Rattle.taskfile.specs.Entries.{Entry, number, line_of, Fits}
+use Rattle.taskfile.specs.Entries.{Entry, number, members, line_of, Fits}
 use Rattle.taskfile.specs.Faults.{Faulty}
 use Rattle.taskfile.specs.Fronts.{text_from, key_from, AllGood, Front}
 use Rattle.taskfile.specs.Keys.{after}
-use Rattle.taskfile.specs.Steps.{Took, Stops, TookAll, StopsIn}
+use Rattle.taskfile.specs.Steps.{Took, Stops, TookAll, StopsIn, StopsBefore}
 
 pub text_append : (k : Key) (es fs : List Entry) → text_from k (es ++ fs) ≡ text_from k es ++ text_from (key_from k es) fs
 text_append k [] fs = refl
@@ -57,21 +57,33 @@ module _ (room : ℕ) (a b : Reader) where
     count = t.moved.count;
   }
 
-pub stops_here : (room most : ℕ) (a : Reader) (m : Misread) → Faulty room a.expected a.rest.now m.flaw → m.line ≡ a.line → 0 < most → StopsIn room a most m []
-stops_here room most a m f l h = record { rest = a.rest.now; front = front_none room a.expected a.rest.now; few = h; flaw = f; line = omega arith }
-
-pub stops_now : (room most : ℕ) (a : Reader) (m : Misread) → Stops a m → 0 < most → StopsIn room a most m []
-stops_now room most a m s h = stops_here room most a m (s.flaw room) s.line h
+-- no line yet
+pub took_none : (room : ℕ) (a : Reader) → TookAll room a [] a
+took_none room a = record { front = front_none room a.expected a.rest.now; next = refl; count = omega arith }
 
 -- only the second line must fit the list
-pub fits_other : (room : ℕ) (k j : Key) (n : ℕ) → k ≡ j → (j ≡ Moves → ⊥) → Fits room k (number n)
-fits_other room k j n e ne = λ h. absurd (ne (sym e ∙ h))
+fits_other : (room : ℕ) (k : Key) (e : Entry) → (k ≡ Moves → ⊥) → Fits room k e
+fits_other room k (number n) other = λ h. absurd (other h)
+fits_other room k (members ns) other = tt
 
-pub facts_other : Facts ≡ Moves → ⊥
-facts_other e = let z : ◌≡◌ {A = ℕ} 0 1 = cc in omega arith
+module _ {room : ℕ} {a b : Reader} {k : Key} (key : a.expected ≡ k) {es : List Entry} (s : TookAll room a es b) where
+  -- the lines es, and one more
+  pub and_one : {d : Reader} {e : Entry} → Took b e d → (key_from k es ≡ Moves → ⊥) → TookAll room a (es ++ e ∷ []) d
+  and_one {d = d} {e = e} t other =
+      all_then room a b d es (e ∷ []) s (one room b d e t (fits_other room b.expected e (λ h. other (ap (λ x. key_from x es) (sym key) ∙ sym s.next ∙ h))))
 
-pub group_other : Group ≡ Moves → ⊥
-group_other e = let z : ◌≡◌ {A = ℕ} 0 1 = cc in omega arith
+  -- the lines es, and a stop
+  pub stops_here : {most : ℕ} {m : Misread} → Faulty room b.expected b.rest.now m.flaw → m.line ≡ b.line → length es < most → StopsBefore room a most m
+  stops_here {m = m} f l h = (
+    es,
+    record {
+      rest = b.rest.now;
+      front = s.front;
+      few = h;
+      flaw = subst (λ x. Faulty room x b.rest.now m.flaw) s.next f;
+      line = omega (arith, s.count);
+    },
+  )
 
-pub price_other : Price ≡ Moves → ⊥
-price_other e = let z : ◌≡◌ {A = ℕ} 0 1 = cc in omega arith
+  pub stops_now : {most : ℕ} {m : Misread} → Stops b m → length es < most → StopsBefore room a most m
+  stops_now t h = stops_here (t.flaw room) t.line h

@@ -1,23 +1,14 @@
 -- What a list begins with, from its first elements one by one.
-use Rattle.std.proofs.Common.{◌≡◌, ℕ, suc, ◌-◌, ◌≤◌, List, [], ◌∷◌, ◌++◌, length, get_or, take, drop, sym, refl, ap, ◌∙◌, arith}
-use Rattle.std.proofs.lemmas.List.{take_rest}
+use Rattle.std.proofs.Common.{◌≡◌, ℕ, suc, ◌≤◌, List, [], ◌∷◌, ◌++◌, length, drop, refl, arith}
+use Rattle.std.proofs.lemmas.Slice.Eq.{HasBytesAt}
 
--- the elements of p stand in l from the place k on
-abbrev pub Stands : ℕ → List ℕ → List ℕ → Type 0
-Stands k [] l = Unit {0}
-Stands k (a ∷ p) l = (get_or l k 0 ≡ a) × Stands (suc k) p l
-
-shift : (k : ℕ) (p : List ℕ) (x : ℕ) (l : List ℕ) → Stands (suc k) p (x ∷ l) → Stands k p l
+shift : (k : ℕ) (p : List ℕ) (x : ℕ) (l : List ℕ) → HasBytesAt (x ∷ l) (suc k) p → HasBytesAt l k p
 shift k [] x l s = tt
 shift k (a ∷ p) x l s = (s.0, shift (suc k) p x l s.1)
 
-begins : (p l : List ℕ) → length p ≤ length l → Stands 0 p l → l ≡ p ++ drop (length p) l
+pub begins : (p l : List ℕ) → length p ≤ length l → HasBytesAt l 0 p → l ≡ p ++ drop (length p) l
 begins [] l h s = refl
 begins (a ∷ p) [] h s = absurd (omega arith)
 begins (a ∷ p) (x ∷ l) h s =
     let tail : l ≡ p ++ drop (length p) l = begins p l (omega arith) (shift 0 p x l s.1) in
     (λ i. s.0 i ∷ tail i)
-
--- as the checker reads the rest of a slice pattern
-pub lead_rest : (p l : List ℕ) → length p ≤ length l → Stands 0 p l → l ≡ p ++ take (length l - length p) (drop (length p) l)
-lead_rest p l h s = begins p l h s ∙ ap (λ t. p ++ t) (sym (take_rest l (length p)))

@@ -1,3 +1,4 @@
+pub mod Exits
 pub mod Cutting
 pub mod Decimals
 pub mod Leading

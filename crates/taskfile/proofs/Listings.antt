@@ -1,8 +1,10 @@
 -- What is left of a set, and what reading it makes of the numbers before.
-use Rattle.std.proofs.Common.{◌≡◌, ℕ, ◌+◌, ◌<◌, ◌≤◌, true, false, ◌||◌, eqb, ◌⊎◌, List, [], ◌∷◌, ◌++◌, length, Some, None, Ok, Err, decimal, Decides, Option, Result, sym, refl, ap, ◌∙◌, subst, inl, inr, ⊎_elim, arith}
-use Rattle.std.proofs.lemmas.Bool.{eq-eqb, eqb-true, or_cases, or_left, or_right}
+use Rattle.std.proofs.Common.{◌≡◌, ℕ, ◌+◌, ◌<◌, ◌≤◌, Bool, true, false, ◌||◌, eqb, ◌⊎◌, List, [], ◌∷◌, ◌++◌, length, get_or, Some, None, Ok, Err, decimal, Decides, Option, Result, sym, refl, ap, ◌∙◌, subst, inl, inr, ⊎_elim, arith}
+use Rattle.std.proofs.lemmas.List.{append-nil, get_or_at, get_or_append_left, length-append}
+use Rattle.std.proofs.lemmas.Bool.{eq-eqb, eqb-true, eqb-false, or_cases, or_left, or_right}
+use Rattle.std.specs.Bool.{MatchBool}
 use Rattle.std.specs.Option.{ok_or}
-use Rattle.std.specs.List.{AllByRecursion}
+use Rattle.std.specs.List.{AllByRecursion, IsFirstMatchOrLen}
 use Rattle.facts.proofs.Tests.{not_true_false}
 use Rattle.facts.specs.Sets.{has, Among, Lists}
 use Rattle.facts.specs.declared.sets.FactSet.{FactSet}
@@ -171,6 +173,35 @@ start s a v l z none some (Err OutOfRange) (n, ns, i, f) =
     (n ∷ ns, record { text = i.text; rising = rising_rises 0 (n ∷ ns) (subst (λ x. Rising x (n ∷ ns)) l i.rising); short = i.short }, f a z)
 start s a v l z none some (Err TooManyMoves) f = f
 
-pub nothing : (v : List ℕ) (s : FactSet) → length v ≡ 0 → Empty s → SetRead v (Ok s)
-nothing [] s e none = ([], record { text = refl; rising = tt; short = tt }, tt, lists_adds s s [] none tt (adds_none s))
-nothing (x ∷ v) s e none = absurd (omega arith)
+-- what is right of the whole text v where s is read, and rest is left unless the last item is taken
+abbrev pub Left : List ℕ → Listing → Bool → List ℕ → Type 0
+Left v s false rest = (r : Result FactSet Flaw) → From s rest r → SetRead v r
+Left v s true rest = SetRead v (ok_or s.facts OutOfRange)
+
+-- an item of a split at commas: what stands before the first, or all, and that is then the last
+abbrev pub Part : List ℕ → List ℕ → Bool → List ℕ → Type 0
+Part rest item ends more =
+    MatchBool ends (rest ≡ item) ((y : ℕ) × (rest ≡ item ++ y ∷ more)) × IsFirstMatchOrLen (λ b. eqb b 44) rest (length item)
+
+part_lacks : (rest item more : List ℕ) → rest ≡ item ++ more → IsFirstMatchOrLen (λ b. eqb b 44) rest (length item) → Lacks 44 item
+part_lacks rest item more e f k lt is =
+    let here = ap (λ l. get_or l k 0) e ∙ get_or_append_left item more 0 k lt ∙ is in
+    eqb-false (get_or rest k 0) 44 (f.0 k 0 (omega arith) lt) here
+
+part_cut : (rest item more : List ℕ) (y : ℕ) → rest ≡ item ++ y ∷ more → IsFirstMatchOrLen (λ b. eqb b 44) rest (length item) → Cut 44 rest item more
+part_cut rest item more y e f =
+    let first = f.1 (omega (arith, ap length e, length-append item (y ∷ more))) 0 in
+    let comma : y ≡ 44 = sym (ap (λ l. get_or l (length item) 0) e ∙ get_or_at item y more 0 (length item) refl) ∙ eqb-true _ 44 first in
+    record { parts = e ∙ ap (λ b. item ++ b ∷ more) comma; first = part_lacks rest item (y ∷ more) e f }
+
+pub left_more : (v : List ℕ) (s t : Listing) (ends : Bool) (rest item more : List ℕ) → Left v s false rest → Part rest item ends more → TookItem s item t → Left v t ends more
+left_more v s t true rest item more l (e, f) k =
+    let lacks = subst (Lacks 44) (sym e) (part_lacks rest item [] (e ∙ sym (append-nil item)) f) in
+    l (ok_or t.facts OutOfRange) (last s t rest lacks (subst (λ i. TookItem s i t) (sym e) k) t.facts refl)
+left_more v s t false rest item more l (p, f) k = λ r g. l r (step s t rest item more (part_cut rest item more p.0 p.1 f) k r g)
+
+pub left_refused : (v : List ℕ) (s : Listing) (ends : Bool) (rest item more : List ℕ) → Left v s false rest → Part rest item ends more → Refused s item → SetRead v (Err Malformed)
+left_refused v s true rest item more l (e, f) h =
+    let lacks = subst (Lacks 44) (sym e) (part_lacks rest item [] (e ∙ sym (append-nil item)) f) in
+    l (Err Malformed) (refused_last s rest lacks (subst (Refused s) (sym e) h))
+left_refused v s false rest item more l (p, f) h = l (Err Malformed) (refused_item s rest item more (part_cut rest item more p.0 p.1 f) h)

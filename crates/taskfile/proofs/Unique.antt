@@ -1,8 +1,9 @@
 -- A file has one outcome.
-use Rattle.std.proofs.Common.{◌≡◌, ℕ, suc, ◌≤◌, Bool, true, false, ◌⊎◌, List, [], ◌∷◌, ◌++◌, length, drop, is_ok, Some, None, Ok, Err, Decides, Option, Result, sym, refl, ap, ◌∙◌, subst, inl, inr, ⊎_elim, append_assoc, arith}
+use Rattle.std.proofs.Common.{◌≡◌, ℕ, suc, ◌≤◌, true, ◌⊎◌, List, [], ◌∷◌, ◌++◌, length, drop, is_ok, Some, None, Ok, Err, Decides, Option, Result, sym, refl, ap, ◌∙◌, subst, inl, inr, ⊎_elim, append_assoc, arith}
 use borrow.Author.Tests.{clash}
 use Rattle.std.proofs.lemmas.List.{append-nil, length-append}
 use Rattle.std.proofs.lemmas.Bool.{cases_lt}
+use Rattle.std.proofs.lemmas.Bool.Decides.{same_from_decides}
 use Rattle.facts.proofs.Members.{same_facts}
 use Rattle.facts.specs.Sets.{has}
 use Rattle.facts.specs.declared.sets.FactSet.{FactSet}
@@ -22,14 +23,9 @@ use Rattle.taskfile.specs.Tellings.{TellsNumber, TellsSet, TellsMove, TellsHeadi
 use Rattle.taskfile.proofs.Wholes.{line_then, same_entry}
 
 -- what entries tell is determined
-same_decided : (a b : Bool) (P : Type 0) → Decides a P → Decides b P → a ≡ b
-same_decided true b P d e = sym (e.1 (d.0 refl))
-same_decided false true P d e = d.1 (e.0 refl)
-same_decided false false P d e = refl
-
 same_set : (s t : FactSet) (e : Entry) → TellsSet s e → TellsSet t e → s ≡ t
 same_set s t (number n) a b = absurd a
-same_set s t (members ns) a b = same_facts s t (λ f. same_decided (has s f) (has t f) _ (a.members f) (b.members f))
+same_set s t (members ns) a b = same_facts s t (λ f. same_from_decides (has s f) (has t f) (a.members f) (b.members f))
 
 same_number : (n m : ℕ) (e : Entry) → TellsNumber n e → TellsNumber m e → n ≡ m
 same_number n m (number k) a b = a ∙ sym b
@@ -171,15 +167,6 @@ same_ends room src rest more es fs o p a b h k =
     (λ x. let s = same_further room fs es more rest p o x k h in (sym s.0, sym s.1))
     (nested room Facts src rest more es fs a b)
 
-same_flaws : (m o : Misread) → m.flaw ≡ o.flaw → m.line ≡ o.line → m ≡ o
-same_flaws m o f l = λ i. record { flaw = f i; line = l i }
-
-some_same : (f g : Flaw) → Some f ≡ Some g → f ≡ g
-some_same f g e = cc
-
-none_some : (f : Flaw) → ◌≡◌ {A = Option Flaw} None (Some f) → ⊥
-none_some f e = let z : ◌≡◌ {A = ℕ} 0 1 = cc in omega arith
-
 by_lines : (src : List ℕ) (before : List Move) (r s : Result Heading Misread) (after others : List Move) → ByLines src before r after → ByLines src before s others → (r ≡ s) × (after ≡ others)
 by_lines src before (Ok h) (Ok k) after others a b =
     let e = same_ends (length before) src [] [] a.entries b.entries None None a.text b.text (a.whole, refl) (b.whole, refl) in (
@@ -187,12 +174,14 @@ by_lines src before (Ok h) (Ok k) after others a b =
       same_written (drop 4 b.entries) before after others (subst (λ x. Written (drop 4 x) before after) e.0 a.moves) b.moves,
     )
 by_lines src before (Ok h) (Err m) after others a b =
-    absurd (none_some m.flaw (same_ends (length before) src [] b.rest a.entries b.entries None (Some m.flaw) a.text b.text (a.whole, refl) b.wrong).1)
+    absurd (cc ((same_ends (length before) src [] b.rest a.entries b.entries None (Some m.flaw) a.text b.text (a.whole, refl) b.wrong).1))
 by_lines src before (Err m) (Ok h) after others a b =
-    absurd (none_some m.flaw (sym (same_ends (length before) src a.rest [] a.entries b.entries (Some m.flaw) None a.text b.text a.wrong (b.whole, refl)).1))
+    absurd (cc ((same_ends (length before) src a.rest [] a.entries b.entries (Some m.flaw) None a.text b.text a.wrong (b.whole, refl)).1))
 by_lines src before (Err m) (Err o) after others a b =
-    let e = same_ends (length before) src a.rest b.rest a.entries b.entries (Some m.flaw) (Some o.flaw) a.text b.text a.wrong b.wrong in (
-      ap Err (same_flaws m o (some_same m.flaw o.flaw e.1) (a.line ∙ ap (λ x. suc (length x)) e.0 ∙ sym b.line)),
+    let e = same_ends (length before) src a.rest b.rest a.entries b.entries (Some m.flaw) (Some o.flaw) a.text b.text a.wrong b.wrong in
+    let flaw : m.flaw ≡ o.flaw = cc (e.1) in
+    let line : m.line ≡ o.line = a.line ∙ ap (λ x. suc (length x)) e.0 ∙ sym b.line in (
+      (λ i. Err (record { flaw = flaw i; line = line i })),
       same_written (drop 4 b.entries) before after others (subst (λ x. Written (drop 4 x) before after) e.0 a.moves) b.moves,
     )
 
@@ -210,7 +199,7 @@ accepts src before after (Err m) l a e = absurd (clash e)
 accepted : (src : List ℕ) (before after : List Move) (r : Result Heading Misread) → ByLines src before r after → (es : List Entry) → Front (length before) Facts src es [] → length es ≡ due es → is_ok r ≡ true
 accepted src before after (Ok h) a es t w = refl
 accepted src before after (Err m) a es t w =
-    absurd (none_some m.flaw (same_ends (length before) src [] a.rest es a.entries None (Some m.flaw) t a.text (w, refl) a.wrong).1)
+    absurd (cc ((same_ends (length before) src [] a.rest es a.entries None (Some m.flaw) t a.text (w, refl) a.wrong).1))
 
 pub exact_lines : (src : List ℕ) (before after : List Move) (r : Result Heading Misread) → length src ≤ 60000 → ByLines src before r after → Decides (is_ok r) (IsText (length before) src)
 exact_lines src before after r l o = ((λ e. accepts src before after r l o e), λ t. accepted src before after r o t.1 t.2 t.3)

@@ -1,8 +1,9 @@
 -- A line ends at its first newline, so that it can be cut in one way only.
-use Rattle.std.proofs.Common.{◌≡◌, ℕ, zero, suc, ◌<◌, Bool, true, false, cond, eqb, List, [], ◌∷◌, ◌++◌, length, decimal, sym, refl, ap, ◌∙◌, append_assoc, arith, eq-eqb}
+use Rattle.std.proofs.Common.{◌≡◌, ℕ, zero, suc, ◌<◌, true, not, eqb, List, [], ◌∷◌, ◌++◌, length, get_or, decimal, sym, refl, ap, ◌∙◌, append_assoc, arith, eq-eqb}
 use borrow.Author.Tests.{clash}
 use Rattle.std.proofs.lemmas.List.{length-append, append_cancel_left}
-use Rattle.std.specs.List.{AllByRecursion}
+use Rattle.std.proofs.lemmas.List.Sums.{AllPass-from_list_all}
+use Rattle.std.specs.List.{AllByRecursion, list_all}
 use Rattle.taskfile.specs.declared.keys.Key.{Key}
 use Rattle.taskfile.specs.declared.keys.Key.TheVariants.{Facts, Moves, Start, Goal, Group, Price, Needs, Makes, Breaks}
 use Rattle.taskfile.specs.Cuts.{Lacks}
@@ -12,19 +13,8 @@ use Rattle.taskfile.proofs.Cutting.{no_cut, same_cut}
 use Rattle.taskfile.proofs.Decimals.{looks, same_numeral}
 use Rattle.taskfile.proofs.Listings.{numeral, decimal_lacks}
 
--- a test that b stands nowhere
-abbrev absent : ℕ → List ℕ → Bool
-absent b [] = true
-absent b (x ∷ l) = cond (eqb x b) false (absent b l)
-
-absent_lacks : (b : ℕ) (l : List ℕ) → absent b l ≡ true → Lacks b l
-absent_lacks b [] t k lt e = omega arith
-absent_lacks b (x ∷ l) t zero lt e = clash (sym (ap (λ y. cond y false (absent b l)) (eq-eqb x b e)) ∙ t)
-absent_lacks b (x ∷ l) t (suc k) lt e = absent_lacks b l (later (eqb x b) t) k (omega arith) e
-  where
-    later : (y : Bool) → cond y false (absent b l) ≡ true → absent b l ≡ true
-    later true u = absurd (clash u)
-    later false u = u
+absent_lacks : (b : ℕ) (l : List ℕ) → list_all (λ x. not (eqb x b)) l ≡ true → Lacks b l
+absent_lacks b l t k lt e = clash (sym (ap not (eq-eqb (get_or l k 0) b e)) ∙ AllPass-from_list_all (λ x. not (eqb x b)) l t k 0 lt)
 
 pub lead_lacks : (k : Key) → Lacks 10 (lead k)
 lead_lacks Facts = absent_lacks 10 (lead Facts) refl

@@ -1,30 +1,20 @@
 -- Lines, as the reader takes them.
-use Rattle.std.specs.Prelude.{◌≡◌, ℕ, ◌+◌, ◌*◌, ◌<◌, Bool, true, false, List, [], ◌∷◌, ◌++◌, length, slice_set}
-use Rattle.facts.specs.Sets.{Lists}
-use Rattle.facts.specs.declared.sets.FactSet.{FactSet}
+use Rattle.std.specs.Prelude.{◌≡◌, ℕ, ◌+◌, ◌*◌, ◌<◌, List, [], ◌∷◌, ◌++◌, length}
 use Rattle.tasks.specs.declared.moves.Move.{Move}
 use Rattle.taskfile.specs.declared.heading.Heading.{Heading}
 use Rattle.taskfile.specs.declared.keys.Key.{Key}
 use Rattle.taskfile.specs.declared.keys.Value.{Value}
-use Rattle.taskfile.specs.declared.keys.Value.TheVariants.{Number, Set}
 use Rattle.taskfile.specs.declared.misread.Flaw.{Flaw}
 use Rattle.taskfile.specs.declared.misread.Flaw.TheVariants.{WrongLine, TooManyMoves}
 use Rattle.taskfile.specs.declared.misread.Misread.{Misread}
 use Rattle.taskfile.specs.declared.reader.Reader.{Reader}
 use Rattle.taskfile.specs.Cuts.{Lacks}
-use Rattle.taskfile.specs.Entries.{Entry, number, members, line_of, Formed, InRange}
+use Rattle.taskfile.specs.Entries.{Entry, line_of, Formed, InRange}
 use Rattle.taskfile.specs.Faults.{HasLine, Faulty}
 use Rattle.taskfile.specs.Fronts.{Front, key_from}
 use Rattle.taskfile.specs.Keys.{after, lead, one_number}
 use Rattle.taskfile.specs.Tellings.{TellsHeading, TellsMove, Written}
-
-abbrev pub is_number : Value → Bool
-is_number (Number v) = true
-is_number (Set v) = false
-
-abbrev pub written : Value → List ℕ
-written (Number v) = v.now
-written (Set v) = v.now
+use Rattle.taskfile.specs.Values.{is_number, written}
 
 -- the bytes src begin with a line of the key k that has the value v
 pub record Line (k : Key) (v : Value) (src rest : List ℕ) : Type 0 where
@@ -52,11 +42,11 @@ pub record Took (a : Reader) (e : Entry) (b : Reader) : Type 0 where
   pub inside : InRange a.expected e
   pub moved : Moved a b
 
-abbrev pub TookNumber : Reader → ℕ → Reader → Type 0
-TookNumber a n b = Took a (number n) b
-
-abbrev pub TookSet : Reader → FactSet → Reader → Type 0
-TookSet a s b = (ns : List ℕ) × Lists s ns × Took a (members ns) b
+-- the reader a takes a line that tells t, and is then the reader b
+pub record TookAs {A : Type 0} (tells : A → Entry → Type 0) (a : Reader) (t : A) (b : Reader) : Type 0 where
+  pub entry : Entry
+  pub told : tells t entry
+  pub took : Took a entry b
 
 -- the line that is due has this flaw, whatever room there is
 abbrev pub Faults : Reader → Flaw → Type 0
@@ -90,27 +80,37 @@ pub record StopsIn (room : ℕ) (a : Reader) (most : ℕ) (m : Misread) (es : Li
   pub flaw : Faulty room (key_from a.expected es) rest m.flaw
   pub line : m.line ≡ a.line + length es
 
-abbrev pub TookHeading : ℕ → Reader → Heading → Reader → Type 0
-TookHeading room a h b = (es : List Entry) × TellsHeading h es × (length es ≡ 4) × TookAll room a es b
+-- the reader a takes the lines of a heading
+pub record TookHeading (room : ℕ) (a : Reader) (h : Heading) (b : Reader) : Type 0 where
+  pub facts : Entry
+  pub count : Entry
+  pub start : Entry
+  pub goal : Entry
+  pub tells : TellsHeading h (facts ∷ count ∷ start ∷ goal ∷ [])
+  pub lines : TookAll room a (facts ∷ count ∷ start ∷ goal ∷ []) b
 
-abbrev pub TookMove : ℕ → Reader → Move → Reader → Type 0
-TookMove room a m b = (g : Entry) × (p : Entry) × (n : Entry) × (k : Entry) × (i : Entry) × TellsMove m g p n k i × TookAll room a (g ∷ p ∷ n ∷ k ∷ i ∷ []) b
+-- the reader a takes the lines of a move
+pub record TookMove (room : ℕ) (a : Reader) (m : Move) (b : Reader) : Type 0 where
+  pub group : Entry
+  pub price : Entry
+  pub needs : Entry
+  pub makes : Entry
+  pub breaks : Entry
+  pub tells : TellsMove m group price needs makes breaks
+  pub lines : TookAll room a (group ∷ price ∷ needs ∷ makes ∷ breaks ∷ []) b
 
 -- the reader a takes the lines of this many moves, which are written to the list
-abbrev pub TookMoves : ℕ → Reader → List Move → List Move → Reader → Type 0
-TookMoves moves a before after b =
-    (es : List Entry) × (length es ≡ 5 * moves) × Written es before after × TookAll (length before) a es b
+pub record TookMoves (room moves : ℕ) (a : Reader) (before after : List Move) (b : Reader) : Type 0 where
+  pub entries : List Entry
+  pub many : length entries ≡ 5 * moves
+  pub written : Written entries before after
+  pub lines : TookAll room a entries b
 
 abbrev pub StopsBefore : ℕ → Reader → ℕ → Misread → Type 0
 StopsBefore room a most m = (es : List Entry) × StopsIn room a most m es
 
 -- the moves that the reader takes before it stops are written to the list
-abbrev pub StopsWriting : ℕ → Reader → List Move → List Move → Misread → Type 0
-StopsWriting moves a before after m = (es : List Entry) × Written es before after × StopsIn (length before) a (5 * moves) m es
-
--- the reader a takes the lines of a move, which is written to this place
-abbrev pub PutMove : ℕ → Reader → List Move → List Move → Reader → Type 0
-PutMove place a before after b = (m : Move) × ((room : ℕ) → TookMove room a m b) × (after ≡ slice_set before place m)
-
-abbrev pub PutNone : Reader → List Move → List Move → Misread → Type 0
-PutNone a before after e = ((room : ℕ) → StopsBefore room a 5 e) × (after ≡ before)
+pub record StopsWriting (room moves : ℕ) (a : Reader) (before after : List Move) (m : Misread) : Type 0 where
+  pub entries : List Entry
+  pub written : Written entries before after
+  pub stops : StopsIn room a (5 * moves) m entries

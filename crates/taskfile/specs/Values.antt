@@ -1,24 +1,27 @@
 -- What the value of a line is read as.
-use Rattle.std.specs.Prelude.{◌≡◌, ℕ, ◌<◌, List, Ok, Err, decimal, Result}
+use Rattle.std.specs.Prelude.{◌≡◌, ℕ, ◌<◌, Bool, true, false, List, Ok, Err, decimal, Result}
 use Rattle.std.specs.List.{AllByRecursion}
 use Rattle.facts.specs.Sets.{Rises, Lists}
 use Rattle.facts.specs.declared.sets.FactSet.{FactSet}
 use Rattle.taskfile.specs.declared.keys.Key.{Key}
+use Rattle.taskfile.specs.declared.keys.Value.{Value}
+use Rattle.taskfile.specs.declared.keys.Value.TheVariants.{Number, Set}
 use Rattle.taskfile.specs.declared.misread.Flaw.{Flaw}
 use Rattle.taskfile.specs.declared.misread.Flaw.TheVariants.{WrongLine, Malformed, OutOfRange, TooManyMoves}
-use Rattle.taskfile.specs.Entries.{Between, Short, joined}
+use Rattle.taskfile.specs.Entries.{Entry, value_of, Short, Formed, InRange, joined}
+
+abbrev pub is_number : Value → Bool
+is_number (Number v) = true
+is_number (Set v) = false
+
+abbrev pub written : Value → List ℕ
+written (Number v) = v.now
+written (Set v) = v.now
 
 -- v writes the number n
 pub record Numeral (v : List ℕ) (n : ℕ) : Type 0 where
   pub short : Short n
   pub digits : v ≡ decimal n
-
-abbrev pub NumberRead : Key → List ℕ → Result ℕ Flaw → Type 0
-NumberRead k v (Ok n) = Numeral v n × Between k n
-NumberRead k v (Err WrongLine) = ⊥
-NumberRead k v (Err Malformed) = (n : ℕ) → Numeral v n → ⊥
-NumberRead k v (Err OutOfRange) = (n : ℕ) × Numeral v n × (Between k n → ⊥)
-NumberRead k v (Err TooManyMoves) = ⊥
 
 -- v writes the numbers ns as a set
 pub record Listed (v : List ℕ) (ns : List ℕ) : Type 0 where
@@ -36,3 +39,11 @@ SetRead v (Err WrongLine) = ⊥
 SetRead v (Err Malformed) = (ns : List ℕ) → Listed v ns → ⊥
 SetRead v (Err OutOfRange) = (ns : List ℕ) × Listed v ns × (OnlyFacts ns → ⊥)
 SetRead v (Err TooManyMoves) = ⊥
+
+-- what the bytes v are read as where a line of the key k is due, and an entry tells it
+abbrev pub ReadAs : {A : Type 0} → (A → Entry → Type 0) → Key → List ℕ → Result A Flaw → Type 0
+ReadAs tells k v (Ok t) = (e : Entry) × tells t e × (v ≡ value_of e) × Formed k e × InRange k e
+ReadAs tells k v (Err WrongLine) = ⊥
+ReadAs tells k v (Err Malformed) = (e : Entry) → Formed k e → v ≡ value_of e → ⊥
+ReadAs tells k v (Err OutOfRange) = (e : Entry) × (v ≡ value_of e) × Formed k e × (InRange k e → ⊥)
+ReadAs tells k v (Err TooManyMoves) = ⊥

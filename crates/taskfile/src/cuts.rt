@@ -6,10 +6,6 @@ ghost use Rattle.taskfile.specs.Cuts.{Cut, Lacks};
 pub fn cut(src: &[u8], b: u8) -> Option<(&[u8], &[u8])>
     ensures { MatchOption result (Lacks b src.now) (λ p. Cut b src.now p.0.now p.1.now) }
 {
-    for (i, x) in src.iter().enumerate() {
-        if *x == b {
-            return Some((&src[0..i], &src[i + 1..]));
-        }
-    }
-    None
+    let i = src.iter().position(|x| *x == b)?;
+    Some((&src[..i], &src[i + 1..]))
 }

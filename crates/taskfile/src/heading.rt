@@ -20,15 +20,12 @@ impl Heading {
     pub fn draft<'a>(&self, moves: &'a [Move]) -> Option<Draft<'a>>
         ensures { MatchOption result (length moves.now < self.now.count) (DraftOf self.now moves.now) }
     {
-        let count = usize::from(self.count);
-        if moves.len() < count {
-            return None;
-        }
+        let first = moves.get(..usize::from(self.count))?;
         Some(Draft {
             facts: self.facts,
             start: self.start,
             goal: self.goal,
-            moves: &moves[0..count],
+            moves: first,
         })
     }
 }

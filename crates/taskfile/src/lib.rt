@@ -8,6 +8,7 @@ mod misread;
 mod numbers;
 mod reader;
 mod sets;
+mod values;
 
 pub use heading::Heading;
 pub use misread::{Flaw, Misread};

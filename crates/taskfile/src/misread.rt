@@ -5,25 +5,20 @@ ghost use Rattle.taskfile.specs.Flaws.{number_of};
 #[derive(Clone, Copy, PartialEq, Eq)]
 pub enum Flaw {
     // the line that is due is not there, or bytes follow the last line
-    WrongLine,
+    WrongLine = 1,
     // the value is not well formed
-    Malformed,
+    Malformed = 2,
     // the value is out of range, or the file is too long
-    OutOfRange,
+    OutOfRange = 3,
     // the list handed in is too short for the moves
-    TooManyMoves,
+    TooManyMoves = 4,
 }
 
 impl Flaw {
     pub fn number(self) -> u16
         ensures { result ≡ number_of self }
     {
-        match self {
-            Flaw::WrongLine => 1,
-            Flaw::Malformed => 2,
-            Flaw::OutOfRange => 3,
-            Flaw::TooManyMoves => 4,
-        }
+        self as u16
     }
 }
 

@@ -1,9 +1,11 @@
 // Numbers in base ten.
-ghost use Rattle.std.specs.Prelude.{◌≡◌, ℕ, MatchResult};
-ghost use Rattle.taskfile.specs.Values.{Numeral, NumberRead};
+ghost use Rattle.std.specs.Prelude.{◌≡◌, ℕ, true, MatchResult};
+ghost use Rattle.taskfile.specs.Tellings.{TellsNumber};
+ghost use Rattle.taskfile.specs.Values.{Numeral};
 
-use crate::keys::Key;
+use crate::keys::{Key, Value};
 use crate::misread::Flaw;
+use crate::values::FromValue;
 
 // A number has at most so many digits.
 const DIGITS: usize = 5;
@@ -13,13 +15,11 @@ pub fn number(v: &[u8]) -> Result<u32, Flaw>
     ensures { MatchResult result (λ n. Numeral v.now n) (λ f. (f ≡ Flaw.Malformed) × ((n : ℕ) → Numeral v.now n → ⊥)) }
 {
     match v {
-        [] => return Err(Flaw::Malformed),
-        [b'0', _, ..] => return Err(Flaw::Malformed),
+        [] | [b'0', _, ..] => return Err(Flaw::Malformed),
+        _ if v.len() > DIGITS => return Err(Flaw::Malformed),
         _ => {}
     }
-    if v.len() > DIGITS {
-        return Err(Flaw::Malformed);
-    }
+    // no chain: the bound on the sum needs an invariant
     let mut n = 0;
     for b in v {
         if !b.is_ascii_digit() {
@@ -30,13 +30,20 @@ pub fn number(v: &[u8]) -> Result<u32, Flaw>
     Ok(n)
 }
 
-// The number that the bytes write, in the range of this key.
-pub fn number_within(key: Key, v: &[u8]) -> Result<u32, Flaw>
-    ensures { NumberRead key v.now result }
-{
-    let n = number(v)?;
-    if n < key.least() || n > key.most() {
-        return Err(Flaw::OutOfRange);
+impl FromValue for u32 {
+    ghost single = { true };
+
+    ghost tells = { TellsNumber };
+
+    // The number, in the range of the key.
+    fn from_value(key: Key, value: Value<'_>) -> Result<u32, Flaw> {
+        let Value::Number(v) = value else {
+            unreachable!();
+        };
+        let n = number(v)?;
+        if !key.allows(n) {
+            return Err(Flaw::OutOfRange);
+        }
+        Ok(n)
     }
-    Ok(n)
 }

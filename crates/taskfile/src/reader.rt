@@ -1,16 +1,12 @@
 // Reading line by line.
-ghost use Rattle.std.specs.Prelude.{◌≡◌, ◌<◌, true, false, length, MatchResult};
-ghost use Rattle.taskfile.specs.Keys.{one_number};
-ghost use Rattle.taskfile.specs.Steps.{TookLine, TookNumber, TookSet, NoLine, Faults, Stops, LeftOver};
+ghost use Rattle.std.specs.Prelude.{◌≡◌, ◌+◌, ◌≤◌, length, MatchResult};
 
 use crate::cuts::cut;
 use crate::keys::Key::{Breaks, Facts, Goal, Group, Makes, Moves, Needs, Price, Start};
 use crate::keys::Value::{Number, Set};
 use crate::keys::{Key, Value};
 use crate::misread::{Flaw, Misread};
-use crate::numbers::number_within;
-use crate::sets::set;
-use facts::FactSet;
+use crate::values::FromValue;
 
 pub mod reading;
 
@@ -20,12 +16,16 @@ struct Reader<'a> {
     expected: Key,
     rest: &'a [u8],
     line: u32,
+    // each line has at least its newline
+    ghost in_file: { line + length rest.now ≤ 60001 },
 }
 
 impl<'a> Reader<'a> {
+    ghost use Rattle.taskfile.specs.Keys.{one_number};
+    ghost use Rattle.taskfile.specs.Steps.{TookLine, TookAs, NoLine, Stops, LeftOver};
+
     // The value of the next line, which must have the expected key.
     fn next_value(&mut self) -> Result<Value<'a>, Flaw>
-        requires { self.old.line < 10000 }
         ensures { MatchResult result (λ v. TookLine self.old v self.new) (λ f. (f ≡ Flaw.WrongLine) × NoLine self.old) }
     {
         let Some((line, rest)) = cut(self.rest, b'\n') else {
@@ -49,42 +49,16 @@ impl<'a> Reader<'a> {
         Ok(v)
     }
 
-    // The number of the next line, still without the line at which it may be refused.
-    fn number_value(&mut self) -> Result<u32, Flaw>
-        requires line_bound { self.old.line < 10000 }
-        requires expected_value { one_number self.old.expected ≡ true }
-        ensures { MatchResult result (λ n. TookNumber self.old n self.new) (Faults self.old) }
+    // What the next line tells, or its flaw.
+    fn next<T: FromValue>(&mut self) -> Result<T, Misread>
+        requires { one_number self.old.expected ≡ T.single }
+        ensures { MatchResult result (λ t. TookAs T.tells self.old t self.new) (Stops self.old) }
     {
         let key = self.expected;
-        match self.next_value()? {
-            Number(v) => number_within(key, v),
-            Set(_) => Err(Flaw::WrongLine),
-        }
-    }
-
-    // The set of the next line, likewise.
-    fn set_value(&mut self) -> Result<FactSet, Flaw>
-        requires line_bound { self.old.line < 10000 }
-        requires expected_value { one_number self.old.expected ≡ false }
-        ensures { MatchResult result (λ s. TookSet self.old s self.new) (Faults self.old) }
-    {
-        match self.next_value()? {
-            Number(_) => Err(Flaw::WrongLine),
-            Set(v) => set(v),
-        }
-    }
-
-    // The number of the next line, or its flaw.
-    fn next_number(&mut self) -> Result<u32, Misread>
-        requires line_bound { self.old.line < 10000 }
-        requires expected_value { one_number self.old.expected ≡ true }
-        ensures { MatchResult result (λ n. TookNumber self.old n self.new) (Stops self.old) }
-    {
         let line = self.line;
-        match self.number_value() {
-            Ok(n) => Ok(n),
-            Err(flaw) => Err(Misread { flaw, line }),
-        }
+        self.next_value()
+            .and_then(|value| T::from_value(key, value))
+            .map_err(|flaw| Misread { flaw, line })
     }
 
     // Nothing may follow the last line.
@@ -98,18 +72,5 @@ impl<'a> Reader<'a> {
             flaw: Flaw::WrongLine,
             line: self.line,
         })
-    }
-
-    // The set of the next line, or its flaw.
-    fn next_set(&mut self) -> Result<FactSet, Misread>
-        requires line_bound { self.old.line < 10000 }
-        requires expected_value { one_number self.old.expected ≡ false }
-        ensures { MatchResult result (λ s. TookSet self.old s self.new) (Stops self.old) }
-    {
-        let line = self.line;
-        match self.set_value() {
-            Ok(s) => Ok(s),
-            Err(flaw) => Err(Misread { flaw, line }),
-        }
     }
 }

@@ -1,11 +1,13 @@
 // Sets, written as rising numbers joined by commas.
-ghost use Rattle.std.specs.Prelude.{◌≡◌, ℕ, ◌≤◌, MatchResult};
+ghost use Rattle.std.specs.Prelude.{◌≡◌, ℕ, ◌≤◌, false, MatchResult};
 ghost use Rattle.taskfile.specs.Listings.{Joins, TookItem};
+ghost use Rattle.taskfile.specs.Tellings.{TellsSet};
 ghost use Rattle.taskfile.specs.Values.{Numeral, SetRead};
 
-use crate::cuts::cut;
+use crate::keys::{Key, Value};
 use crate::misread::Flaw;
 use crate::numbers::number;
+use crate::values::FromValue;
 use facts::FactSet;
 
 // A set as far as it is read: the least number that may come next, and its facts, `None` once a number was no fact.
@@ -35,7 +37,7 @@ impl Listing {
 fn joined(facts: Option<FactSet>, n: u32) -> Option<FactSet>
     ensures { Joins n facts result }
 {
-    facts?.with(n.min(64) as u8)
+    facts?.with(u8::try_from(n).ok()?)
 }
 
 // The facts of the set that the bytes write.
@@ -45,15 +47,25 @@ pub fn set(v: &[u8]) -> Result<FactSet, Flaw>
     if v.is_empty() {
         return Ok(FactSet::empty());
     }
-    let mut rest = v;
     let mut read = Listing {
         least: 0,
         facts: Some(FactSet::empty()),
     };
-    while let Some((item, after)) = cut(rest, b',') {
+    for item in v.split(|b| *b == b',') {
         read = read.with(item)?;
-        rest = after;
     }
-    let read = read.with(rest)?;
     read.facts.ok_or(Flaw::OutOfRange)
+}
+
+impl FromValue for FactSet {
+    ghost single = { false };
+
+    ghost tells = { TellsSet };
+
+    fn from_value(_key: Key, value: Value<'_>) -> Result<FactSet, Flaw> {
+        let Value::Set(v) = value else {
+            unreachable!();
+        };
+        set(v)
+    }
 }

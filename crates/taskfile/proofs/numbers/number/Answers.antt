@@ -1,16 +1,16 @@
 use Rattle.std.proofs.Common.{refl, arith, ltb-false, ltb-true}
 use Rattle.taskfile.proofs.Decimals.{sofar_more, sofar_small, is_numeral, looks}
 use Rattle.taskfile.proofs.numbers.number.Goals as goal
-use Rattle.taskfile.proofs.numbers.number.Goals.{then-v-lt2, else-v-lt2+in_default-1}
+use Rattle.taskfile.proofs.numbers.number.Goals.{in_default-via-then-v-lt2, in_default-via-else-v-lt2+in_default-1}
 
 pub returns-in-empty : goal.returns-in-empty
 returns-in-empty c = (refl, λ n m. let l = looks c.args.v.now n m in omega (arith, ltb-true))
 
-pub returns-in-48 : goal.returns-in-48
-returns-in-48 c = (refl, λ n m. let l = looks c.args.v.now n m in omega (arith, ltb-false, l.lead (omega arith)))
+pub returns-in-empty-2 : goal.returns-in-empty-2
+returns-in-empty-2 c = (refl, λ n m. let l = looks c.args.v.now n m in omega (arith, ltb-false, l.lead (omega arith)))
 
-pub returns-then-v-gt-DIGITS : goal.returns-then-v-gt-DIGITS
-returns-then-v-gt-DIGITS c = (refl, λ n m. let l = looks c.args.v.now n m in omega arith)
+pub returns-in_default : goal.returns-in_default
+returns-in_default c = (refl, λ n m. let l = looks c.args.v.now n m in omega arith)
 
 pub returns-then-not-is_ascii_digit : goal.returns-then-not-is_ascii_digit
 returns-then-not-is_ascii_digit c = (
@@ -33,4 +33,4 @@ loop-b-preserved c =
 pub returns : goal.returns
 returns c =
     is_numeral c.args.v.now _ _ c.loop-b.invariant (omega arith) (omega (arith, ltb-false)) (omega arith)
-    (elim c.if-v-lt2.branch [ then-v-lt2 w ↦ λ z. omega (arith, ltb-true, ltb-false) | else-v-lt2+in_default-1 w ↦ λ z. absurd (omega arith) ])
+    (elim c.in_default.branch [ in_default-via-then-v-lt2 w ↦ λ z. omega (arith, ltb-true, ltb-false) | in_default-via-else-v-lt2+in_default-1 w ↦ λ z. absurd (omega arith) ])
