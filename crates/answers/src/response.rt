@@ -1,50 +1,34 @@
 // The whole program, from the bytes that it is handed to the text that it prints.
-ghost use Rattle.std.specs.Prelude.{◌≡◌, length, IfOk, string_bytes};
-ghost use Rattle.answers.specs.Responses.{Response, Judged};
+ghost use Rattle.std.specs.Prelude.{IfOk, MatchResult, string_bytes};
+ghost use Rattle.texts.specs.Refusals.{Refuses};
+ghost use Rattle.answers.specs.Responses.{Response, Accepts};
 
+use crate::accepted::accepted_text;
 use crate::floors::floor_of;
-use crate::texts::{accepted_text, refused_text};
-use facts::FactSet;
+use costs::{Estimate, Minutes};
 use std::alloc::{AllocError, Global};
-use taskfile::read;
 use tasks::{Draft, Move, check};
+use texts::{Refused, read_draft, room};
 
 // The answer to a task file.
 pub fn respond(heap: Global, bytes: &[u8]) -> Result<String, AllocError>
     ensures { IfOk result (λ text. Response bytes.now (string_bytes text)) }
 {
-    let none = FactSet::empty();
-    let blank = Move {
-        group: 0,
-        price: 0,
-        needs: none,
-        makes: none,
-        breaks: none,
-    };
-    let mut moves = [blank; 1024];
-    respond_by(heap, bytes, &mut moves)
-}
-
-// The same, with a list into which the moves are read.
-fn respond_by(heap: Global, bytes: &[u8], moves: &mut [Move]) -> Result<String, AllocError>
-    requires { length moves.old ≡ 1024 }
-    ensures { IfOk result (λ text. Response bytes.now (string_bytes text)) }
-{
-    match read(bytes, moves) {
-        Err(misread) => refused_text(heap, misread.flaw.number(), misread.line),
-        Ok(heading) => match heading.draft(moves) {
-            Some(draft) => judge(heap, draft),
-            None => unreachable(),
-        },
+    let mut moves = room();
+    match accept(bytes, &mut moves) {
+        Ok((draft, floor)) => accepted_text(heap, &draft, floor),
+        Err(refused) => refused.to_string(heap),
     }
 }
 
-// What the check says of a draft.
-fn judge(heap: Global, draft: Draft<'_>) -> Result<String, AllocError>
-    ensures { IfOk result (λ text. Judged draft.entry (string_bytes text)) }
+// The draft that the bytes say and the floor of its goal, or why they are refused.
+fn accept<'a>(
+    bytes: &[u8],
+    moves: &'a mut [Move; 1024],
+) -> Result<(Draft<'a>, Estimate<Minutes>), Refused>
+    ensures { MatchResult result (λ a. Accepts bytes.now a.0 a.1) (Refuses bytes.now) }
 {
-    match check(draft) {
-        Ok(task) => accepted_text(heap, &draft, floor_of(&task)),
-        Err(fault) => refused_text(heap, fault.refusal.number(), 0),
-    }
+    let draft = read_draft(bytes, moves)?;
+    let task = check(draft)?;
+    Ok((draft, floor_of(&task)))
 }
