@@ -1,8 +1,11 @@
 -- What the bytes of a file say, read with room for 1,024 moves.
 use Rattle.std.specs.Prelude.{◌≡◌, ℕ, false, List, length, Ok, Err}
 use Rattle.facts.specs.Sets.{has}
+use Rattle.tasks.specs.Faults.{Faultless}
+use Rattle.tasks.specs.Tasks.{draft_of}
 use Rattle.tasks.specs.declared.draft.Draft.{Draft}
 use Rattle.tasks.specs.declared.moves.Move.{Move}
+use Rattle.tasks.specs.declared.task.Task.{Task}
 use Rattle.taskfile.specs.Headings.{DraftOf}
 use Rattle.taskfile.specs.Outcomes.{Outcome}
 use Rattle.taskfile.specs.declared.heading.Heading.{Heading}
@@ -24,6 +27,12 @@ pub record Says (src : List ℕ) (d : Draft) : Type 0 where
   pub room : length before ≡ 1024
   pub read : Outcome src before (Ok heading) after
   pub draft : DraftOf heading after d
+
+-- the bytes say the draft d, it has no fault, and t is its task
+pub record SaysTask (src : List ℕ) (d : Draft) (t : Task) : Type 0 where
+  pub says : Says src d
+  pub faultless : Faultless d
+  pub checked : draft_of t ≡ d
 
 -- the bytes are no task file
 pub record Misreads (src : List ℕ) (m : Misread) : Type 0 where

@@ -5,6 +5,6 @@ mod drafts;
 mod lists;
 mod refused;
 
-pub use drafts::{read_draft, room};
+pub use drafts::{read_task, room};
 pub use lists::{moves_text, set_text};
 pub use refused::Refused;

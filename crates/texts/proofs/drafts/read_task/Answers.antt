@@ -1,6 +1,6 @@
 use Rattle.std.proofs.lemmas.Result.{err_from_is_err_and}
 use Rattle.texts.specs.Refusals.{misread, faulty}
-use Rattle.answers.proofs.response.accept.Goals as goal
+use Rattle.texts.proofs.drafts.read_task.Goals as goal
 
 pub returns-in_err-draft : goal.returns-in_err-draft
 returns-in_err-draft c =
