@@ -11,15 +11,15 @@ use tasks::{Draft, Move};
 // The minutes, `None` for never.
 fn minutes(estimate: Estimate<Minutes>) -> Option<u32> {
     match estimate {
-        Estimate::Value(cost) => Some(cost.total),
-        Estimate::Never => None,
+        Some(cost) => Some(cost.total),
+        None => None,
     }
 }
 
 fn highest(estimate: Estimate<Worst>) -> Option<u16> {
     match estimate {
-        Estimate::Value(cost) => Some(cost.highest),
-        Estimate::Never => None,
+        Some(cost) => Some(cost.highest),
+        None => None,
     }
 }
 
@@ -27,7 +27,7 @@ fn highest(estimate: Estimate<Worst>) -> Option<u16> {
 fn single(rt: &impl Abort, groups: u8) -> Result<Option<u32>, Fail> {
     let moves = two_moves()?;
     let task = task_of(draft_of(&moves)?)?;
-    let mut table = [Estimate::<Minutes>::Never; 3];
+    let mut table: [Estimate<Minutes>; 3] = [None; 3];
     assert!(rt; work_out_single(&task, groups, &mut table).is_ok());
     Ok(minutes(Single::of(&task, groups, &table).estimate(task.goal())))
 }
@@ -36,7 +36,7 @@ fn single(rt: &impl Abort, groups: u8) -> Result<Option<u32>, Fail> {
 fn pair(rt: &impl Abort, set: FactSet) -> Result<Option<u32>, Fail> {
     let moves = two_moves()?;
     let task = task_of(draft_of(&moves)?)?;
-    let mut table = [Estimate::<Minutes>::Never; 9];
+    let mut table: [Estimate<Minutes>; 9] = [None; 9];
     assert!(rt; work_out_pair(&task, 255, &mut table).is_ok());
     Ok(minutes(Pair::of(&task, 255, &table).estimate(set)))
 }
@@ -45,8 +45,8 @@ fn pair(rt: &impl Abort, set: FactSet) -> Result<Option<u32>, Fail> {
 fn sum(rt: &impl Abort, one: u8, other: u8) -> Result<(Option<u32>, bool), Fail> {
     let moves = two_moves()?;
     let task = task_of(draft_of(&moves)?)?;
-    let mut first = [Estimate::<Minutes>::Never; 3];
-    let mut second = [Estimate::<Minutes>::Never; 3];
+    let mut first: [Estimate<Minutes>; 3] = [None; 3];
+    let mut second: [Estimate<Minutes>; 3] = [None; 3];
     assert!(rt; work_out_single(&task, one, &mut first).is_ok());
     assert!(rt; work_out_single(&task, other, &mut second).is_ok());
     let both = Sum {
@@ -75,8 +75,8 @@ fn estimates_of_the_goal(rt: HostRuntime) -> Result<(), Fail> {
 fn sums_in_worst(rt: HostRuntime) -> Result<(), Fail> {
     let moves = two_moves()?;
     let task = task_of(draft_of(&moves)?)?;
-    let mut all = [Estimate::<Worst>::Never; 3];
-    let mut second = [Estimate::<Worst>::Never; 3];
+    let mut all: [Estimate<Worst>; 3] = [None; 3];
+    let mut second: [Estimate<Worst>; 3] = [None; 3];
     assert!(rt; work_out_single(&task, 255, &mut all).is_ok());
     assert!(rt; work_out_single(&task, 2, &mut second).is_ok());
     let both = Sum {
@@ -92,7 +92,7 @@ fn sums_in_worst(rt: HostRuntime) -> Result<(), Fail> {
 fn worst_pair(rt: &impl Abort, groups: u8) -> Result<Option<u16>, Fail> {
     let moves = two_moves()?;
     let task = task_of(draft_of(&moves)?)?;
-    let mut table = [Estimate::<Worst>::Never; 9];
+    let mut table: [Estimate<Worst>; 9] = [None; 9];
     assert!(rt; work_out_pair(&task, groups, &mut table).is_ok());
     Ok(highest(Pair::of(&task, groups, &table).estimate(task.goal())))
 }
@@ -108,7 +108,7 @@ fn pairs_in_worst(rt: HostRuntime) -> Result<(), Fail> {
 fn a_pile_of_bounds(rt: HostRuntime) -> Result<(), Fail> {
     let moves = two_moves()?;
     let task = task_of(draft_of(&moves)?)?;
-    let mut table = [Estimate::<Minutes>::Never; 9];
+    let mut table: [Estimate<Minutes>; 9] = [None; 9];
     assert!(rt; work_out_pair(&task, 255, &mut table).is_ok());
     let pair = Pair::of(&task, 255, &table);
     let blind = Blind { of: PhantomData };
@@ -147,7 +147,7 @@ fn moves_that_need_each_other(rt: HostRuntime) -> Result<(), Fail> {
         goal: none,
         moves: &moves,
     })?;
-    let mut table = [Estimate::<Minutes>::Never; 2];
+    let mut table: [Estimate<Minutes>; 2] = [None; 2];
     assert!(rt; work_out_single(&task, 255, &mut table).is_ok());
     assert_eq!(rt; minutes(table[0]), None);
     assert_eq!(rt; minutes(table[1]), None);
@@ -169,7 +169,7 @@ fn pairs_fit(table: [Estimate<Minutes>; 9]) -> Result<bool, Fail> {
 }
 
 fn value(total: u32) -> Estimate<Minutes> {
-    Estimate::Value(Minutes { total })
+    Some(Minutes { total })
 }
 
 #[test]
@@ -178,7 +178,7 @@ fn tables_that_break_a_rule(rt: HostRuntime) -> Result<(), Fail> {
     assert!(rt; fits([value(0), value(14), value(0)])?);
     assert!(rt; !fits([value(1), value(15), value(4)])?);
     assert!(rt; !fits([value(0), value(16), value(4)])?);
-    let never = Estimate::<Minutes>::Never;
+    let never: Estimate<Minutes> = None;
     let [a, b, c, d, e, f, g, h, i] = [
         value(0),
         never,
@@ -203,7 +203,7 @@ fn fits_other(rt: &impl Abort, draft: Draft<'_>) -> Result<bool, Fail> {
     let moves = two_moves()?;
     let task = task_of(draft_of(&moves)?)?;
     let other = task_of(draft)?;
-    let mut table = [Estimate::<Minutes>::Never; 3];
+    let mut table: [Estimate<Minutes>; 3] = [None; 3];
     assert!(rt; work_out_single(&task, 255, &mut table).is_ok());
     Ok(Single::of(&task, 255, &table).fits(&other))
 }

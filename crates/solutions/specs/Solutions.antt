@@ -6,7 +6,7 @@ use Rattle.tasks.specs.Tasks.{moves_of}
 use Rattle.tasks.specs.declared.task.Task.{Task}
 use Rattle.costs.specs.Lists.{Costs}
 use Rattle.costs.specs.Minutes.{no_longer, held, sum}
-use Rattle.costs.specs.declared.estimate.Estimate.{Estimate}
+use Rattle.costs.specs.Estimates.{Estimate}
 use Rattle.costs.specs.declared.minutes.Minutes.{Minutes}
 use Rattle.costs.specs.declared.tally.Tally.{Ghosts}
 use Rattle.tables.specs.Equation.{setting_of, Greatest}

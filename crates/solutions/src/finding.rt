@@ -1,5 +1,4 @@
 // The search that such a program makes: minutes, the pair table of all groups, 1,024 records and as many openings.
-ghost use Rattle.tasks.specs.Tasks.{Checked};
 ghost use Rattle.tables.specs.Equation.{setting_of};
 ghost use Rattle.tables.specs.Worked.{PairsTable};
 ghost use Rattle.solutions.specs.Solutions.{Solved, minutes};
@@ -11,20 +10,18 @@ use tables::{Pair, work_out_pair};
 use tasks::Task;
 use theory::{Mark, Record, Refusal, Reply};
 
-// What the search tells of a checked task; the moves of a plan come into the front of the list.
+// What the search tells of a task; the moves of a plan come into the front of the list.
 pub fn search(task: Task<'_>, list: &mut [u16; 1024]) -> Reply<Minutes>
-    requires { Checked task }
     ensures { Solved task.entry list.old list.new result }
 {
-    let mut pairs = [Estimate::<Minutes>::Never; 4096];
+    let mut pairs: [Estimate<Minutes>; 4096] = [None; 4096];
     let _ = work_out_pair(&task, 255, &mut pairs);
     search_by(task, &pairs, list)
 }
 
 // The same by the pair table of the task.
 fn search_by(task: Task<'_>, pairs: &[Estimate<Minutes>], list: &mut [u16; 1024]) -> Reply<Minutes>
-    requires checked { Checked task }
-    requires worked { PairsTable minutes (setting_of task 255) pairs.now }
+    requires { PairsTable minutes (setting_of task 255) pairs.now }
     ensures { Solved task.entry list.old list.new result }
 {
     let bound = Pair::of(&task, 255, pairs);

@@ -42,8 +42,8 @@ fn a_search_by_hand(rt: HostRuntime) -> Result<(), Fail> {
 fn an_overdrawn_bound(rt: HostRuntime) -> Result<(), Fail> {
     let moves = two_moves()?;
     let task = task_of(draft_of(&moves)?)?;
-    let mut all = [Estimate::<Minutes>::Never; 3];
-    let mut second = [Estimate::<Minutes>::Never; 3];
+    let mut all: [Estimate<Minutes>; 3] = [None; 3];
+    let mut second: [Estimate<Minutes>; 3] = [None; 3];
     assert!(rt; work_out_single(&task, 255, &mut all).is_ok());
     assert!(rt; work_out_single(&task, 2, &mut second).is_ok());
     let bound = Sum {
@@ -67,7 +67,7 @@ fn a_bound_of_another_task(rt: HostRuntime) -> Result<(), Fail> {
     let moves = two_moves()?;
     let task = task_of(draft_of(&moves)?)?;
     let other = task_of(draft_of(&moves[0..1])?)?;
-    let mut costs = [Estimate::<Minutes>::Never; 3];
+    let mut costs: [Estimate<Minutes>; 3] = [None; 3];
     assert!(rt; work_out_single(&other, 255, &mut costs).is_ok());
     let bound = Single::of(&other, 255, &costs);
     let blind = Blind::<Minutes> { of: PhantomData };
