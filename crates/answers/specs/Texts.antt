@@ -7,10 +7,6 @@ use Rattle.costs.specs.declared.minutes.Minutes.{Minutes}
 use Rattle.taskfile.specs.Entries.{joined}
 use Rattle.answers.specs.Floors.{floor_text}
 
--- a refusal, with its number and its line
-abbrev pub text_of_refusal : ℕ → ℕ → List ℕ
-text_of_refusal number line = codes "answer=refused\nnumber=" ++ (decimal number ++ (codes "\nline=" ++ (decimal line ++ codes "\n")))
-
 -- the heading of a draft, its sets as rising numbers joined by commas, and below it the floor
 pub record AcceptedText (d : Draft) (floor : Estimate Minutes) (text : List ℕ) : Type 0 where
   pub start : List ℕ

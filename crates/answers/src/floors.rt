@@ -1,10 +1,10 @@
 // What the goal of a task costs at least, by the pair table of all groups.
-ghost use Rattle.std.specs.Prelude.{◌≡◌, IfOk, string_bytes};
+ghost use Rattle.std.specs.Prelude.{◌≡◌, Some};
 ghost use Rattle.answers.specs.Floors.{floor_text, IsFloor};
 
 use bounds::Bound;
 use costs::{Estimate, Minutes};
-use std::alloc::{AllocError, Global};
+use std::fmt;
 use tables::{Pair, work_out_pair};
 use tasks::Task;
 
@@ -24,15 +24,20 @@ fn goal_estimate(task: &Task<'_>, groups: u8) -> Estimate<Minutes>
     Pair::of(task, groups, &table).estimate(task.goal())
 }
 
-// The estimate in minutes, or the word never.
-pub fn floor_text(heap: Global, floor: Estimate<Minutes>) -> Result<String, AllocError>
-    ensures { IfOk result (λ text. string_bytes text ≡ floor_text floor) }
-{
-    match floor {
-        Some(cost) => {
-            let total = cost.total;
-            format!(in heap; "{total}")
+// An estimate as it is printed: the minutes, or the word never.
+#[derive(Clone, Copy)]
+pub struct Floor(pub Estimate<Minutes>);
+
+impl fmt::Display for Floor {
+    ghost output = { λ floor. Some (floor_text floor.0) };
+
+    fn fmt<W: fmt::Write>(&self, f: &mut fmt::Formatter<W>) -> fmt::Result {
+        match self.0 {
+            Some(cost) => {
+                let total = cost.total;
+                write!(f, "{total}")
+            }
+            None => write!(f, "never"),
         }
-        None => format!(in heap; "never"),
     }
 }

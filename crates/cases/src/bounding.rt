@@ -1,36 +1,12 @@
-use crate::{move_of, set_of};
 use bounds::{Blind, Bound, Higher, Sum, is_overdrawn};
 use costs::{Estimate, Minutes, Worst};
 use facts::FactSet;
+use samples::{draft_of, move_of, set_of, task_of, two_moves};
 use std::marker::PhantomData;
 use std::process::Abort;
 use std::test::Fail;
 use tables::{Pair, Single, work_out_pair, work_out_single};
 use tasks::{Draft, Move};
-
-// Move 0 turns fact 0 into fact 1, at 15; move 1, of group 1, makes fact 2, at 4.
-fn two_moves() -> Result<[Move; 2], Fail> {
-    let first = move_of(&[0], &[1], &[0])?;
-    let second = move_of(&[], &[2], &[])?;
-    Ok([
-        Move { price: 15, ..first },
-        Move {
-            price: 4,
-            group: 1,
-            ..second
-        },
-    ])
-}
-
-// From fact 0 to facts 1 and 2.
-fn draft_of(moves: &[Move]) -> Result<Draft<'_>, Fail> {
-    Ok(Draft {
-        facts: 3,
-        start: set_of(&[0])?,
-        goal: set_of(&[1, 2])?,
-        moves,
-    })
-}
 
 // The minutes, `None` for never.
 fn minutes(estimate: Estimate<Minutes>) -> Option<u32> {
@@ -50,9 +26,7 @@ fn highest(estimate: Estimate<Worst>) -> Option<u16> {
 // The single table's estimate of the goal, with these groups counted.
 fn single(rt: &impl Abort, groups: u8) -> Result<Option<u32>, Fail> {
     let moves = two_moves()?;
-    let Ok(task) = tasks::check(draft_of(&moves)?) else {
-        return Err(Fail::new("refused"));
-    };
+    let task = task_of(draft_of(&moves)?)?;
     let mut table: [Estimate<Minutes>; 3] = [None; 3];
     assert!(rt; work_out_single(&task, groups, &mut table).is_ok());
     Ok(minutes(Single::of(&task, groups, &table).estimate(task.goal())))
@@ -61,9 +35,7 @@ fn single(rt: &impl Abort, groups: u8) -> Result<Option<u32>, Fail> {
 // The pair table's estimate of a set, with all groups counted.
 fn pair(rt: &impl Abort, set: FactSet) -> Result<Option<u32>, Fail> {
     let moves = two_moves()?;
-    let Ok(task) = tasks::check(draft_of(&moves)?) else {
-        return Err(Fail::new("refused"));
-    };
+    let task = task_of(draft_of(&moves)?)?;
     let mut table: [Estimate<Minutes>; 9] = [None; 9];
     assert!(rt; work_out_pair(&task, 255, &mut table).is_ok());
     Ok(minutes(Pair::of(&task, 255, &table).estimate(set)))
@@ -72,9 +44,7 @@ fn pair(rt: &impl Abort, set: FactSet) -> Result<Option<u32>, Fail> {
 // The sum of two single tables: its estimate of the goal, and whether it is overdrawn.
 fn sum(rt: &impl Abort, one: u8, other: u8) -> Result<(Option<u32>, bool), Fail> {
     let moves = two_moves()?;
-    let Ok(task) = tasks::check(draft_of(&moves)?) else {
-        return Err(Fail::new("refused"));
-    };
+    let task = task_of(draft_of(&moves)?)?;
     let mut first: [Estimate<Minutes>; 3] = [None; 3];
     let mut second: [Estimate<Minutes>; 3] = [None; 3];
     assert!(rt; work_out_single(&task, one, &mut first).is_ok());
@@ -104,9 +74,7 @@ fn estimates_of_the_goal(rt: HostRuntime) -> Result<(), Fail> {
 #[test]
 fn sums_in_worst(rt: HostRuntime) -> Result<(), Fail> {
     let moves = two_moves()?;
-    let Ok(task) = tasks::check(draft_of(&moves)?) else {
-        return Err(Fail::new("refused"));
-    };
+    let task = task_of(draft_of(&moves)?)?;
     let mut all: [Estimate<Worst>; 3] = [None; 3];
     let mut second: [Estimate<Worst>; 3] = [None; 3];
     assert!(rt; work_out_single(&task, 255, &mut all).is_ok());
@@ -123,9 +91,7 @@ fn sums_in_worst(rt: HostRuntime) -> Result<(), Fail> {
 // The pair table's estimate of the goal in worst, with these groups counted.
 fn worst_pair(rt: &impl Abort, groups: u8) -> Result<Option<u16>, Fail> {
     let moves = two_moves()?;
-    let Ok(task) = tasks::check(draft_of(&moves)?) else {
-        return Err(Fail::new("refused"));
-    };
+    let task = task_of(draft_of(&moves)?)?;
     let mut table: [Estimate<Worst>; 9] = [None; 9];
     assert!(rt; work_out_pair(&task, groups, &mut table).is_ok());
     Ok(highest(Pair::of(&task, groups, &table).estimate(task.goal())))
@@ -141,9 +107,7 @@ fn pairs_in_worst(rt: HostRuntime) -> Result<(), Fail> {
 #[test]
 fn a_pile_of_bounds(rt: HostRuntime) -> Result<(), Fail> {
     let moves = two_moves()?;
-    let Ok(task) = tasks::check(draft_of(&moves)?) else {
-        return Err(Fail::new("refused"));
-    };
+    let task = task_of(draft_of(&moves)?)?;
     let mut table: [Estimate<Minutes>; 9] = [None; 9];
     assert!(rt; work_out_pair(&task, 255, &mut table).is_ok());
     let pair = Pair::of(&task, 255, &table);
@@ -177,14 +141,12 @@ fn moves_that_need_each_other(rt: HostRuntime) -> Result<(), Fail> {
         },
     ];
     let none = FactSet::empty();
-    let Ok(task) = tasks::check(Draft {
+    let task = task_of(Draft {
         facts: 2,
         start: none,
         goal: none,
         moves: &moves,
-    }) else {
-        return Err(Fail::new("refused"));
-    };
+    })?;
     let mut table: [Estimate<Minutes>; 2] = [None; 2];
     assert!(rt; work_out_single(&task, 255, &mut table).is_ok());
     assert_eq!(rt; minutes(table[0]), None);
@@ -195,18 +157,14 @@ fn moves_that_need_each_other(rt: HostRuntime) -> Result<(), Fail> {
 // Whether a single table fits the small task.
 fn fits(table: [Estimate<Minutes>; 3]) -> Result<bool, Fail> {
     let moves = two_moves()?;
-    let Ok(task) = tasks::check(draft_of(&moves)?) else {
-        return Err(Fail::new("refused"));
-    };
+    let task = task_of(draft_of(&moves)?)?;
     Ok(Single::of(&task, 255, &table).fits(&task))
 }
 
 // Whether a pair table does.
 fn pairs_fit(table: [Estimate<Minutes>; 9]) -> Result<bool, Fail> {
     let moves = two_moves()?;
-    let Ok(task) = tasks::check(draft_of(&moves)?) else {
-        return Err(Fail::new("refused"));
-    };
+    let task = task_of(draft_of(&moves)?)?;
     Ok(Pair::of(&task, 255, &table).fits(&task))
 }
 
@@ -243,12 +201,8 @@ fn tables_that_break_a_rule(rt: HostRuntime) -> Result<(), Fail> {
 // Whether the single table of the small task fits another one.
 fn fits_other(rt: &impl Abort, draft: Draft<'_>) -> Result<bool, Fail> {
     let moves = two_moves()?;
-    let Ok(task) = tasks::check(draft_of(&moves)?) else {
-        return Err(Fail::new("refused"));
-    };
-    let Ok(other) = tasks::check(draft) else {
-        return Err(Fail::new("refused"));
-    };
+    let task = task_of(draft_of(&moves)?)?;
+    let other = task_of(draft)?;
     let mut table: [Estimate<Minutes>; 3] = [None; 3];
     assert!(rt; work_out_single(&task, 255, &mut table).is_ok());
     Ok(Single::of(&task, 255, &table).fits(&other))
@@ -300,9 +254,7 @@ fn other_tasks(rt: HostRuntime) -> Result<(), Fail> {
 #[test]
 fn short_tables(rt: HostRuntime) -> Result<(), Fail> {
     let moves = two_moves()?;
-    let Ok(task) = tasks::check(draft_of(&moves)?) else {
-        return Err(Fail::new("refused"));
-    };
+    let task = task_of(draft_of(&moves)?)?;
     let mut table = [value(0), value(15)];
     assert!(rt; work_out_single(&task, 255, &mut table).is_err());
     assert_eq!(rt;

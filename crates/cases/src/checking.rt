@@ -1,14 +1,13 @@
-use crate::{move_of, set_of};
 use facts::FactSet;
+use samples::{move_of, set_of, task_of};
 use std::test::Fail;
 use tasks::{Draft, Move, Task};
 
 // The number and the move of the refusal, or `None` where the draft passes.
 fn refused(draft: Draft<'_>) -> Option<(u16, u16)> {
-    match tasks::check(draft) {
-        Ok(_) => None,
-        Err(fault) => Some((fault.refusal.number(), fault.place.number())),
-    }
+    tasks::check(draft)
+        .err()
+        .map(|fault| (fault.refusal.number(), fault.place.number()))
 }
 
 #[test]
@@ -153,9 +152,7 @@ fn lists_carried_out(rt: HostRuntime) -> Result<(), Fail> {
         goal: set_of(&[1, 2])?,
         moves: &moves,
     };
-    let Ok(task) = tasks::check(draft) else {
-        return Err(Fail::new("refused"));
-    };
+    let task = task_of(draft)?;
     assert_eq!(rt; carried(&task, &[0, 1]), Ok((set_of(&[1, 2])?, true)));
     assert_eq!(rt; carried(&task, &[1]), Ok((set_of(&[0, 2])?, false)));
     assert_eq!(rt; carried(&task, &[]), Ok((set_of(&[0])?, false)));
@@ -172,9 +169,7 @@ fn empty_goal(rt: HostRuntime) -> Result<(), Fail> {
         goal: FactSet::empty(),
         moves: &[],
     };
-    let Ok(task) = tasks::check(draft) else {
-        return Err(Fail::new("refused"));
-    };
+    let task = task_of(draft)?;
     assert_eq!(rt; carried(&task, &[]), Ok((set_of(&[0])?, true)));
     Ok(())
 }

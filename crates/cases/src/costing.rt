@@ -1,6 +1,6 @@
-use crate::move_of;
 use costs::{Estimate, Minutes, Tally, Worst, list_cost};
 use facts::FactSet;
+use samples::{move_of, task_of};
 use std::test::Fail;
 use tasks::{Draft, Move, Task};
 
@@ -59,10 +59,7 @@ fn never_is_above_all(rt: HostRuntime) {
 
 // What the list costs in minutes, `None` where a number is no move.
 fn minutes_of(task: &Task<'_>, list: &[u16]) -> Option<u32> {
-    match list_cost::<Minutes>(task, list) {
-        Some(cost) => Some(cost.total),
-        None => None,
-    }
+    list_cost::<Minutes>(task, list).map(|cost| cost.total)
 }
 
 #[test]
@@ -82,9 +79,7 @@ fn costs_of_lists(rt: HostRuntime) -> Result<(), Fail> {
         goal: FactSet::empty(),
         moves: &moves,
     };
-    let Ok(task) = tasks::check(draft) else {
-        return Err(Fail::new("refused"));
-    };
+    let task = task_of(draft)?;
     assert_eq!(rt; minutes_of(&task, &[0, 1, 1]), Some(23));
     assert_eq!(rt; minutes_of(&task, &[]), Some(0));
     assert_eq!(rt; minutes_of(&task, &[0, 2]), None);

@@ -1,6 +1,7 @@
-use crate::set_of;
 use answers::respond;
 use facts::FactSet;
+use itertools::Itertools;
+use samples::set_of;
 use std::alloc::{AllocError, Global};
 use std::process::Abort;
 use std::test::Fail;
@@ -20,36 +21,30 @@ fn untouched() -> Move {
 }
 
 // The lines of a small task, counted from 0.
-fn line(at: usize) -> &'static [u8] {
-    match at {
-        0 => b"facts=3\n",
-        1 => b"moves=2\n",
-        2 => b"start=0\n",
-        3 => b"goal=1,2\n",
-        4 => b"group=0\n",
-        5 => b"price=15\n",
-        6 => b"needs=0\n",
-        7 => b"makes=1\n",
-        8 => b"breaks=0\n",
-        9 => b"group=1\n",
-        10 => b"price=4\n",
-        11 => b"needs=\n",
-        12 => b"makes=2\n",
-        _ => b"breaks=\n",
-    }
-}
+const LINES: [&str; 14] = [
+    "facts=3\n",
+    "moves=2\n",
+    "start=0\n",
+    "goal=1,2\n",
+    "group=0\n",
+    "price=15\n",
+    "needs=0\n",
+    "makes=1\n",
+    "breaks=0\n",
+    "group=1\n",
+    "price=4\n",
+    "needs=\n",
+    "makes=2\n",
+    "breaks=\n",
+];
 
 // The small task with another text for the line `at`; at 14, after its last line.
 fn file_with(heap: Global, at: usize, text: &[u8]) -> Result<Vec<u8>, AllocError> {
     let mut file = Vec::new(heap);
-    for i in 0..14usize {
-        if i == at {
-            file.extend_from_slice(text)?;
-        } else {
-            file.extend_from_slice(line(i))?;
-        }
+    for (i, line) in LINES.iter().enumerate() {
+        file.extend_from_slice(if i == at { text } else { line.as_bytes() })?;
     }
-    if at == 14 {
+    if at == LINES.len() {
         file.extend_from_slice(text)?;
     }
     Ok(file)
@@ -62,10 +57,9 @@ fn refused(bytes: &[u8]) -> Option<(u16, u32)> {
 }
 
 fn told(outcome: Result<Heading, Misread>) -> Option<(u16, u32)> {
-    match outcome {
-        Ok(_) => None,
-        Err(misread) => Some((misread.flaw.number(), misread.line)),
-    }
+    outcome
+        .err()
+        .map(|misread| (misread.flaw.number(), misread.line))
 }
 
 // Checks what comes of the small task with that line replaced.
@@ -85,9 +79,7 @@ fn expect(
 fn small_task(rt: HostRuntime) -> Result<(), Fail> {
     let file = file_with(rt.alloc(), 15, b"")?;
     let mut moves = [untouched(); 4];
-    let Ok(heading) = read(file.as_slice(), &mut moves) else {
-        return Err(Fail::new("refused"));
-    };
+    let heading = read(file.as_slice(), &mut moves).map_err(|_| "refused")?;
     assert!(rt; heading.facts == 3 && heading.count == 2);
     assert!(rt; heading.start == set_of(&[0])? && heading.goal == set_of(&[1, 2])?);
     assert!(rt; moves[0].group == 0 && moves[0].price == 15 && moves[0].needs == set_of(&[0])?);
@@ -163,62 +155,30 @@ fn moves_read_whole_stay(rt: HostRuntime) -> Result<(), Fail> {
     Ok(())
 }
 
-// What the program prints for the small task with that line replaced.
-fn prints(rt: &impl Abort, heap: Global, at: usize, text: &[u8], answer: &str) -> Result<(), Fail> {
-    let file = file_with(heap, at, text)?;
-    let told = respond(heap, file.as_slice())?;
-    assert!(rt; told.as_str() == answer);
-    Ok(())
-}
-
 #[test]
 fn printed(rt: HostRuntime) -> Result<(), Fail> {
     let heap = rt.alloc();
-    prints(
-        &rt,
-        heap,
-        15,
-        b"",
-        "facts=3\nmoves=2\nstart=0\ngoal=1,2\nfloor=19\n",
-    )?;
-    prints(
-        &rt,
-        heap,
-        3,
-        b"goal=\n",
-        "facts=3\nmoves=2\nstart=0\ngoal=\nfloor=0\n",
-    )?;
-    prints(
-        &rt,
-        heap,
-        2,
-        b"start=3\n",
-        "answer=refused\nnumber=5\nline=0\n",
-    )?;
-    prints(
-        &rt,
-        heap,
-        8,
-        b"breaks=0,1\n",
-        "answer=refused\nnumber=6\nline=0\n",
-    )?;
-    prints(
-        &rt,
-        heap,
-        5,
-        b"price=015\n",
-        "answer=refused\nnumber=2\nline=6\n",
-    )
+    for (at, text, answer) in [
+        (15, "", "facts=3\nmoves=2\nstart=0\ngoal=1,2\nfloor=19\n"),
+        (3, "goal=\n", "facts=3\nmoves=2\nstart=0\ngoal=\nfloor=0\n"),
+        (2, "start=3\n", "answer=refused\nnumber=5\nline=0\n"),
+        (8, "breaks=0,1\n", "answer=refused\nnumber=6\nline=0\n"),
+        (5, "price=015\n", "answer=refused\nnumber=2\nline=6\n"),
+    ] {
+        let file = file_with(heap, at, text.as_bytes())?;
+        let told = respond(heap, file.as_slice())?;
+        assert!(rt; told.as_str() == answer, "at {at}");
+    }
+    Ok(())
 }
 
 // A file of 1,024 moves, of which the first `longer` break a fact, so that each of these has a byte more than the others.
 fn long_file(heap: Global, longer: usize) -> Result<Vec<u8>, AllocError> {
     let mut file = Vec::new(heap);
-    file.extend_from_slice(b"facts=64\nmoves=1024\nstart=")?;
-    push_facts(heap, &mut file)?;
-    file.extend_from_slice(b"\ngoal=")?;
-    push_facts(heap, &mut file)?;
-    file.extend_from_slice(b"\n")?;
+    // the facts from 10 to 63, in 161 bytes
+    let facts = (10..64u8).join(heap, ",")?;
+    let heading = format!(in heap; "facts=64\nmoves=1024\nstart={facts}\ngoal={facts}\n")?;
+    file.extend_from_slice(heading.as_bytes())?;
     for i in 0..1024usize {
         file.extend_from_slice(b"group=0\nprice=65535\nneeds=0,1,2,3,4,5,6,7\nmakes=9\n")?;
         let last: &[u8] = if i < longer {
@@ -229,19 +189,6 @@ fn long_file(heap: Global, longer: usize) -> Result<Vec<u8>, AllocError> {
         file.extend_from_slice(last)?;
     }
     Ok(file)
-}
-
-// The facts from 10 to 63, in 161 bytes.
-fn push_facts(heap: Global, file: &mut Vec<u8>) -> Result<(), AllocError> {
-    for fact in 10..64u8 {
-        let item = if fact == 10 {
-            format!(in heap; "{fact}")?
-        } else {
-            format!(in heap; ",{fact}")?
-        };
-        file.extend_from_slice(item.as_bytes())?;
-    }
-    Ok(())
 }
 
 // What comes of the long file, read into a list of so many places as moves may be.

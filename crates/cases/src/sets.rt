@@ -1,5 +1,5 @@
-use crate::set_of;
 use facts::FactSet;
+use samples::set_of;
 use std::test::Fail;
 
 #[test]

@@ -87,6 +87,7 @@ solves t b told events before after now u l q p brief list =
           answer = l.two;
           state = now;
           queue = subst (λ a. Queue (posed t b) (both b a l.two) now) x.is queue;
+          read_so = x.read_so;
         };
         written = read_so list came x.list;
       };

@@ -1,5 +1,5 @@
 -- What was read out stands in the front of the list.
-use Rattle.std.proofs.Common.{◌≡◌, ℕ, ◌-◌, ◌≤◌, min, List, ◌++◌, length, take, drop, sym, ap, ◌∙◌, arith, length-append}
+use Rattle.std.proofs.Common.{◌≡◌, ℕ, ◌≤◌, List, ◌++◌, length, take, drop, sym, ap, ◌∙◌, arith, length-append}
 use Rattle.std.proofs.Math.Seq.{take-append_seam}
 use Rattle.tasks.specs.declared.task.Task.{Task}
 use Rattle.costs.specs.declared.minutes.Minutes.{Minutes}
@@ -11,12 +11,9 @@ said_length t moves r (cheapest k g c e a) = e
 said_length t moves r (no_list k e n a) = ap length e ∙ sym n
 said_length t moves r (no_room k e n m a) = ap length e ∙ sym n
 
-pub front_read : (before after moves : List ℕ) (k n m : ℕ) → after ≡ moves ++ drop (length moves) before → length after ≡ m → length moves ≡ n
-    → k ≡ min n m → take (k - 0) after ≡ moves
-front_read before after moves k n m is size told cut =
-    let whole = size_of before after moves is in
-    let all : k - 0 ≡ length moves = omega (arith, whole) in
-    ap (λ i. take i after) all ∙ ap (take (length moves)) is ∙ take-append_seam moves (drop (length moves) before)
-  where
-    size_of : (before after moves : List ℕ) → after ≡ moves ++ drop (length moves) before → length moves ≤ length after
-    size_of before after moves is = omega (arith, ap length is, length-append moves (drop (length moves) before))
+pub said_fits : (t : Task) (before after moves : List ℕ) (r : Reply Minutes) → Says t moves r → after ≡ moves ++ drop (length moves) before → r.length ≤ length after
+said_fits t before after moves r says is =
+    omega (arith, said_length t moves r says, ap length is, length-append moves (drop (length moves) before))
+
+pub front_read : (before after moves : List ℕ) (k : ℕ) → after ≡ moves ++ drop (length moves) before → k ≡ length moves → take k after ≡ moves
+front_read before after moves k is all = ap (λ i. take i after) all ∙ ap (take (length moves)) is ∙ take-append_seam moves (drop (length moves) before)

@@ -1,5 +1,3 @@
-mod Announced
-mod Commas
 mod Fronts
 mod Working
 mod Ended

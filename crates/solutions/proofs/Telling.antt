@@ -11,6 +11,7 @@ use Rattle.theory.specs.declared.record.Record.{Record}
 use Rattle.theory.specs.declared.refusal.Refusal.{Refusal}
 use Rattle.theory.specs.declared.reply.End.{End}
 use Rattle.theory.specs.declared.reply.End.TheVariants.{Going, Planned}
+use Rattle.theory.specs.declared.reply.Kind.TheVariants.{Plan}
 use Rattle.theory.specs.declared.reply.Reply.{Reply}
 use Rattle.queues.specs.Calls.{written}
 use Rattle.solutions.specs.Solutions.{minutes, Says, cheapest, no_list, no_room}
@@ -28,6 +29,7 @@ pub record Tells (t : Task) (b : Lent Minutes) (before : List ℕ) (one two : An
   pub is : one ≡ ran reply
   pub moves : List ℕ
   pub says : Says t moves reply
+  pub read_so : reply.kind ≡ Plan → two ≡ read moves
   pub list : written (both b one two) before ≡ moves ++ drop (length moves) before
 
 never : {A : Type 0} → ◌≡◌ {A = ℕ} 0 1 → A
@@ -59,16 +61,16 @@ module _ (t : Task) (b : Lent Minutes) where
   tells_refused {recs = recs} before r (going k) not_ended p brief =
       let told = p.decided recs Going refl (omega arith) in absurd (told.4 (ap (λ q. q.kind) (same_reply told.3) ∙ k))
   tells_refused before r (exhausted k n) ended_with_none p brief =
-      record { reply = r; is = refl; moves = []; says = no_list k refl n (p.hopeless 1 (run 1024 b) r (there here) k); list = refl }
+      record { reply = r; is = refl; moves = []; says = no_list k refl n (p.hopeless 1 (run 1024 b) r (there here) k); read_so = λ e. cc; list = refl }
   tells_refused before r (filled k n) ended_with_full p brief =
-      record { reply = r; is = refl; moves = []; says = no_room k refl n (p.crowded 1 (run 1024 b) r (there here) k) (p.floor 1 (run 1024 b) r (there here) (inr k)); list = refl }
+      record { reply = r; is = refl; moves = []; says = no_room k refl n (p.crowded 1 (run 1024 b) r (there here) k) (p.floor 1 (run 1024 b) r (there here) (inr k)); read_so = λ e. cc; list = refl }
   tells_refused before r e (list_too_short trail short) p brief = let few = brief _ _ _ refl trail in absurd (omega arith)
 
   tells_read : {i : ℕ} {l : List ℕ} {s : State Minutes} (before : List ℕ) (r : Reply Minutes) → Ended r (Planned i) → Promises P (both b (ran r) (read l)) s
       → Tells t b before (ran r) (read l)
   tells_read {l = l} before r (planned k) p =
       let told = p.readable 1 0 (run 1024 b) (read_out 1024) r l (there here) k here in
-      record { reply = r; is = refl; moves = l; says = cheapest k told.good told.costs told.length_told (p.cheapest 1 (run 1024 b) r (there here) k); list = refl }
+      record { reply = r; is = refl; moves = l; says = cheapest k told.good told.costs told.length_told (p.cheapest 1 (run 1024 b) r (there here) k); read_so = λ e. refl; list = refl }
 
   tells_second : {recs : List (Record Minutes)} {last : End} {two : Answer Minutes} {s : State Minutes} (before : List ℕ) (r : Reply Minutes) → Ended r last
       → Answers P (holding recs last) (read_out 1024) two s → Promises P (both b (ran r) two) s → Brief s → Tells t b before (ran r) two

@@ -1,24 +1,18 @@
 -- What the search of such a program finds for a task.
-use Rattle.std.specs.Prelude.{◌≡◌, ℕ, true, T, List, [], ◌∷◌, ◌++◌, length, drop, Result, MatchResult}
+use Rattle.std.specs.Prelude.{◌≡◌, ℕ, true, T, List, [], ◌∷◌, ◌++◌, length, drop}
 use Rattle.facts.specs.declared.sets.FactSet.{FactSet}
 use Rattle.tasks.specs.Lists.{Good}
-use Rattle.tasks.specs.Faults.{FirstFault}
-use Rattle.tasks.specs.Tasks.{draft_of, moves_of}
-use Rattle.tasks.specs.declared.draft.Draft.{Draft}
-use Rattle.tasks.specs.declared.moves.Move.{Move}
-use Rattle.tasks.specs.declared.refusal.Fault.{Fault}
+use Rattle.tasks.specs.Tasks.{moves_of}
 use Rattle.tasks.specs.declared.task.Task.{Task}
 use Rattle.costs.specs.Lists.{Costs}
 use Rattle.costs.specs.Minutes.{no_longer, held, sum}
 use Rattle.costs.specs.Estimates.{Estimate}
 use Rattle.costs.specs.declared.minutes.Minutes.{Minutes}
 use Rattle.costs.specs.declared.tally.Tally.{Ghosts}
-use Rattle.taskfile.specs.Headings.{DraftOf}
-use Rattle.taskfile.specs.declared.heading.Heading.{Heading}
 use Rattle.tables.specs.Equation.{setting_of, Greatest}
 use Rattle.theory.specs.Meets.{MeetsMore}
 use Rattle.theory.specs.Problem.{Lent}
-use Rattle.theory.specs.Queue.{run, read_out, Answer, ran, State, asked, Queue}
+use Rattle.theory.specs.Queue.{run, read_out, Answer, ran, read, State, asked, Queue}
 use Rattle.theory.specs.declared.reply.Kind.TheVariants.{Plan, NoPlan, Full}
 use Rattle.theory.specs.declared.reply.Reply.{Reply}
 
@@ -39,8 +33,8 @@ pub data Says (t : Task) (moves : List ℕ) (r : Reply Minutes) : Type 0 where
   -- regression from the goal meets more than 1,024 sets, and no good list is cheaper than the floor told
   no_room : r.kind ≡ Full → moves ≡ [] → r.length ≡ 0 → MeetsMore t 1024 → AtLeast t r.value → Says t moves r
 
--- the reply is the one that the rules give, for the greatest estimates at pairs with all groups counted
-pub record ByRules (t : Task) (r : Reply Minutes) : Type 0 where
+-- the reply and the moves read out are those that the rules give, for the greatest estimates at pairs with all groups counted
+pub record ByRules (t : Task) (moves : List ℕ) (r : Reply Minutes) : Type 0 where
   pub est : FactSet → Estimate Minutes
   pub greatest : Greatest minutes (setting_of t 255) 2 est
   pub bound : Lent Minutes
@@ -49,15 +43,11 @@ pub record ByRules (t : Task) (r : Reply Minutes) : Type 0 where
   pub answer : Answer Minutes
   pub state : State Minutes
   pub queue : Queue {tally = minutes} (record { task = t; bound = bound; room = 1024 }) (asked (read_out 1024) answer ∷ asked (run 1024 bound) (ran r) ∷ []) state
+  pub read_so : r.kind ≡ Plan → answer ≡ read moves
 
 -- what the search finds, and what the list lent holds before and after it
 pub record Solved (t : Task) (before after : List ℕ) (r : Reply Minutes) : Type 0 where
   pub moves : List ℕ
   pub says : Says t moves r
-  pub by_rules : ByRules t r
+  pub by_rules : ByRules t moves r
   pub written : after ≡ moves ++ drop (length moves) before
-
--- what is found of the draft of a heading and a list of moves: its first fault, or what the search finds
-abbrev pub Found : Heading → List Move → (before after : List ℕ) → Result (Reply Minutes) Fault → Type 0
-Found h moves before after r = (d : Draft) × DraftOf h moves d
-    × MatchResult r (λ reply. (t : Task) × (draft_of t ≡ d) × Solved t before after reply) (FirstFault d)

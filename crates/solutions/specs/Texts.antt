@@ -6,10 +6,6 @@ use Rattle.theory.specs.declared.reply.Kind.{Kind}
 use Rattle.theory.specs.declared.reply.Kind.TheVariants.{Pending, Plan, NoPlan, Full}
 use Rattle.theory.specs.declared.reply.Reply.{Reply}
 
--- a refusal, with its number and its line
-abbrev pub text_of_refusal : ℕ → ℕ → List ℕ
-text_of_refusal number line = codes "answer=refused\nnumber=" ++ (decimal number ++ (codes "\nline=" ++ (decimal line ++ codes "\n")))
-
 -- a plan: its cost, how many moves it has, their numbers in list order joined by commas, and the openings
 abbrev pub text_of_plan : ℕ → ℕ → List ℕ → ℕ → List ℕ
 text_of_plan cost length moves opened = codes "answer=plan\ncost=" ++ (decimal cost ++ (codes "\nlength=" ++ (decimal length

@@ -1,46 +1,36 @@
 // A whole program that searches, from the bytes that it is handed to the text that it prints.
-ghost use Rattle.std.specs.Prelude.{◌≡◌, ◌≤◌, IfOk, string_bytes};
-ghost use Rattle.tasks.specs.declared.draft.Draft.{Draft};
-ghost use Rattle.taskfile.specs.Headings.{DraftOf};
-ghost use Rattle.solutions.specs.Responses.{Response, Judged};
+ghost use Rattle.std.specs.Prelude.{IfOk, MatchResult, string_bytes};
+ghost use Rattle.texts.specs.Refusals.{Refuses};
+ghost use Rattle.solutions.specs.Responses.{Response, Solves};
 
-use crate::finding::find;
-use crate::texts::{answer_text, refused_text};
-use facts::FactSet;
+use crate::answer::answer_text;
+use crate::finding::search;
+use costs::Minutes;
 use std::alloc::{AllocError, Global};
-use taskfile::{Heading, read};
 use tasks::Move;
+use texts::{Refused, read_task, room};
+use theory::Reply;
 
 // The answer to a task file.
 pub fn respond(heap: Global, bytes: &[u8]) -> Result<String, AllocError>
     ensures { IfOk result (λ text. Response bytes.now (string_bytes text)) }
 {
-    let none = FactSet::empty();
-    let blank = Move {
-        group: 0,
-        price: 0,
-        needs: none,
-        makes: none,
-        breaks: none,
-    };
-    let mut moves = [blank; 1024];
-    match read(bytes, &mut moves) {
-        Err(misread) => refused_text(heap, misread.flaw.number(), misread.line),
-        Ok(heading) => solve(heap, heading, moves),
+    let mut moves = room();
+    let mut list = [0; 1024];
+    match solve(bytes, &mut moves, &mut list) {
+        Ok(reply) => answer_text(heap, &reply, &list[..usize::from(reply.length)]),
+        Err(refused) => refused.to_string(heap),
     }
 }
 
-// What the check or the search says of the task of a heading and its moves.
-fn solve(heap: Global, heading: Heading, moves: [Move; 1024]) -> Result<String, AllocError>
-    requires { heading.count ≤ 1024 }
-    ensures { IfOk result (λ text. (d : Draft) × DraftOf heading moves d × Judged d (string_bytes text)) }
+// What the search tells of the task that the bytes say, the moves of a plan in the front of the list, or why they are refused.
+fn solve(
+    bytes: &[u8],
+    moves: &mut [Move; 1024],
+    list: &mut [u16; 1024],
+) -> Result<Reply<Minutes>, Refused>
+    ensures { MatchResult result (Solves bytes.now list.old list.new) (Refuses bytes.now) }
 {
-    let mut list = [0; 1024];
-    match find(heading, moves, &mut list) {
-        Err(fault) => refused_text(heap, fault.refusal.number(), 0),
-        Ok(reply) => {
-            let length = usize::from(reply.length).min(1024);
-            answer_text(heap, &reply, &list[0..length])
-        }
-    }
+    let (_, task) = read_task(bytes, moves)?;
+    Ok(search(task, list))
 }

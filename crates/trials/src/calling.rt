@@ -1,58 +1,37 @@
-use crate::{blank, is_shut, set_of, two_moves, word};
+use crate::blank;
 use bounds::{Blind, Sum};
 use costs::{Estimate, Minutes, Tally};
+use samples::{draft_of, set_of, task_of, two_moves};
 use search::Search;
 use std::marker::PhantomData;
 use std::test::Fail;
 use tables::{Single, work_out_single};
-use tasks::{Draft, Move, check as checked};
-
-// From fact 0 to facts 1 and 2.
-fn draft_of(moves: &[Move]) -> Result<Draft<'_>, Fail> {
-    Ok(Draft {
-        facts: 3,
-        start: set_of(&[0])?,
-        goal: set_of(&[1, 2])?,
-        moves,
-    })
-}
+use theory::{Kind, Mark};
 
 #[test]
 fn a_search_by_hand(rt: HostRuntime) -> Result<(), Fail> {
     let moves = two_moves()?;
-    let Ok(task) = checked(draft_of(&moves)?) else {
-        return Err(Fail::new("refused"));
-    };
+    let task = task_of(draft_of(&moves)?)?;
     let bound = Blind { of: PhantomData };
     let mut table = [blank::<Minutes>(); 6];
     let mut search = Search::make(task, &bound, &mut table);
-    let Ok(first) = search.run(&bound, 1) else {
-        return Err(Fail::new("refused"));
-    };
-    assert_eq!(rt; word(first.kind), "pending");
+    let first = search.run(&bound, 1).map_err(|_| "refused")?;
+    assert!(rt; first.kind == Kind::Pending);
     let mut list = [5, 5, 5];
-    let Err(why) = search.read_out(&mut list) else {
-        return Err(Fail::new("a list"));
-    };
+    let why = search.read_out(&mut list).err().ok_or("a list")?;
     assert_eq!(rt; why.number(), 12);
     assert_eq!(rt; list, [5, 5, 5]);
-    let Ok(last) = search.run(&bound, 65_536) else {
-        return Err(Fail::new("refused"));
-    };
-    assert_eq!(rt;
-        (word(last.kind), last.opened, last.value.total),
-        ("plan", 2, 19)
-    );
-    let Ok(length) = search.read_out(&mut list) else {
-        return Err(Fail::new("no list"));
-    };
+    let last = search.run(&bound, 65_536).map_err(|_| "refused")?;
+    assert!(rt; last.kind == Kind::Plan);
+    assert_eq!(rt; (last.opened, last.value.total), (2, 19));
+    let length = search.read_out(&mut list).map_err(|_| "no list")?;
     assert_eq!(rt; length, 2);
     assert_eq!(rt; list, [0, 1, 5]);
     let table = search.close();
     assert!(rt; table.len() == 6);
-    assert!(rt; table[0].set == set_of(&[1, 2])? && is_shut(table[0].mark));
+    assert!(rt; table[0].set == set_of(&[1, 2])? && table[0].mark == Mark::Shut);
     assert_eq!(rt; (table[0].parent, table[0].via), (65_535, 65_535));
-    assert!(rt; table[3].set == set_of(&[0])? && !is_shut(table[3].mark));
+    assert!(rt; table[3].set == set_of(&[0])? && table[3].mark == Mark::Waiting);
     assert_eq!(rt; (table[3].parent, table[3].via), (2, 0));
     assert_eq!(rt; (table[4].parent, table[4].via), (7, 7));
     Ok(())
@@ -62,9 +41,7 @@ fn a_search_by_hand(rt: HostRuntime) -> Result<(), Fail> {
 #[test]
 fn an_overdrawn_bound(rt: HostRuntime) -> Result<(), Fail> {
     let moves = two_moves()?;
-    let Ok(task) = checked(draft_of(&moves)?) else {
-        return Err(Fail::new("refused"));
-    };
+    let task = task_of(draft_of(&moves)?)?;
     let mut all: [Estimate<Minutes>; 3] = [None; 3];
     let mut second: [Estimate<Minutes>; 3] = [None; 3];
     assert!(rt; work_out_single(&task, 255, &mut all).is_ok());
@@ -76,9 +53,7 @@ fn an_overdrawn_bound(rt: HostRuntime) -> Result<(), Fail> {
     let mut table = [blank::<Minutes>(); 4];
     let mut search = Search::make(task, &bound, &mut table);
     let blind = Blind::<Minutes> { of: PhantomData };
-    let Err(why) = search.run(&blind, 1) else {
-        return Err(Fail::new("a reply"));
-    };
+    let why = search.run(&blind, 1).err().ok_or("a reply")?;
     assert_eq!(rt; why.number(), 10);
     let table = search.close();
     assert!(rt; table.len() == 4);
@@ -90,25 +65,17 @@ fn an_overdrawn_bound(rt: HostRuntime) -> Result<(), Fail> {
 #[test]
 fn a_bound_of_another_task(rt: HostRuntime) -> Result<(), Fail> {
     let moves = two_moves()?;
-    let Ok(task) = checked(draft_of(&moves)?) else {
-        return Err(Fail::new("refused"));
-    };
-    let Ok(other) = checked(draft_of(&moves[0..1])?) else {
-        return Err(Fail::new("refused"));
-    };
+    let task = task_of(draft_of(&moves)?)?;
+    let other = task_of(draft_of(&moves[0..1])?)?;
     let mut costs: [Estimate<Minutes>; 3] = [None; 3];
     assert!(rt; work_out_single(&other, 255, &mut costs).is_ok());
     let bound = Single::of(&other, 255, &costs);
     let blind = Blind::<Minutes> { of: PhantomData };
     let mut table = [blank::<Minutes>(); 4];
     let mut search = Search::make(task, &blind, &mut table);
-    let Err(why) = search.run(&bound, 1) else {
-        return Err(Fail::new("a reply"));
-    };
+    let why = search.run(&bound, 1).err().ok_or("a reply")?;
     assert_eq!(rt; why.number(), 9);
-    let Ok(reply) = search.run(&blind, 0) else {
-        return Err(Fail::new("refused"));
-    };
+    let reply = search.run(&blind, 0).map_err(|_| "refused")?;
     assert_eq!(rt; reply.value.total, Minutes::nil().total);
     Ok(())
 }

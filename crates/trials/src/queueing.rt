@@ -1,13 +1,15 @@
-use crate::{blank, set_of, shown, two_moves, word};
+use crate::{blank, shown};
 use bounds::Blind;
 use costs::{Estimate, Minutes, Worst};
+use facts::FactSet;
 use queues::{Call, Told, queue};
+use samples::{draft_of, set_of, task_of, two_moves};
 use std::marker::PhantomData;
 use std::process::Abort;
 use std::test::Fail;
 use tables::{Pair, work_out_pair};
-use tasks::{Draft, check as checked};
-use theory::Refusal;
+use tasks::Draft;
+use theory::{Kind, Refusal};
 
 // Makes these calls of a search that knows nothing, over a table of so many places, at most four.
 fn blindly(
@@ -26,9 +28,7 @@ fn blindly(
         goal: set_of(goal)?,
         moves: &moves,
     };
-    let Ok(task) = checked(draft) else {
-        return Err(Fail::new("refused"));
-    };
+    let task = task_of(draft)?;
     assert!(rt; places <= 4);
     let mut table = [blank(); 4];
     let bound = Blind { of: PhantomData };
@@ -127,15 +127,7 @@ fn fewer_replies_than_calls(rt: HostRuntime) -> Result<(), Fail> {
 #[test]
 fn the_dearest_move_counts(rt: HostRuntime) -> Result<(), Fail> {
     let moves = two_moves()?;
-    let draft = Draft {
-        facts: 3,
-        start: set_of(&[0])?,
-        goal: set_of(&[1, 2])?,
-        moves: &moves,
-    };
-    let Ok(task) = checked(draft) else {
-        return Err(Fail::new("refused"));
-    };
+    let task = task_of(draft_of(&moves)?)?;
     let mut table = [blank::<Worst>(); 4];
     let bound = Blind { of: PhantomData };
     let mut told = [Told::Refused(Refusal::Misfit); 2];
@@ -145,7 +137,7 @@ fn the_dearest_move_counts(rt: HostRuntime) -> Result<(), Fail> {
     let Told::Ran(reply) = told[0] else {
         return Err(Fail::new("no run"));
     };
-    assert_eq!(rt; word(reply.kind), "plan");
+    assert!(rt; reply.kind == Kind::Plan);
     assert_eq!(rt; reply.value.highest, 15);
     assert_eq!(rt; list, [0, 1]);
     Ok(())
@@ -155,15 +147,10 @@ fn the_dearest_move_counts(rt: HostRuntime) -> Result<(), Fail> {
 #[test]
 fn a_bound_that_knows(rt: HostRuntime) -> Result<(), Fail> {
     let moves = two_moves()?;
-    let draft = Draft {
-        facts: 3,
-        start: set_of(&[])?,
-        goal: set_of(&[1, 2])?,
-        moves: &moves,
-    };
-    let Ok(task) = checked(draft) else {
-        return Err(Fail::new("refused"));
-    };
+    let task = task_of(Draft {
+        start: FactSet::empty(),
+        ..draft_of(&moves)?
+    })?;
     let mut pairs: [Estimate<Minutes>; 9] = [None; 9];
     assert!(rt; work_out_pair(&task, 255, &mut pairs).is_ok());
     let bound = Pair::of(&task, 255, &pairs);

@@ -1,22 +1,18 @@
-use Rattle.std.proofs.Common.{refl, ap, ◌∙◌}
+use Rattle.std.proofs.Common.{sym, ap, ◌∙◌}
 use Rattle.std.proofs.lemmas.Result.{IfOk-weaker}
-use Rattle.solutions.specs.Responses.{misread, judged}
-use Rattle.solutions.specs.Texts.{text_of_refusal}
-use Rattle.solutions.proofs.Announced.{announced_fits}
+use Rattle.solutions.specs.Responses.{refused, solved}
+use Rattle.solutions.specs.Texts.{text_of_answer}
+use Rattle.solutions.proofs.Fronts.{said_length, front_read}
 use Rattle.solutions.proofs.response.respond.Goals as goal
-
-pub solve-requires : goal.solve-requires
-solve-requires c = announced_fits _ _ _ _ c.in-Ok.ensures.outcome
-
-pub returns-in-Err : goal.returns-in-Err
-returns-in-Err c =
-    IfOk-weaker c.refused_text.result _ _
-    (λ text e. misread (record { before = _; after = _; room = refl; read = c.in-Err.ensures.outcome })
-    (e ∙ ap (λ n. text_of_refusal n c.in-Err.misread.line) c.number.ensures))
-    c.refused_text.ensures
 
 pub returns-in-Ok : goal.returns-in-Ok
 returns-in-Ok c =
-    IfOk-weaker c.solve.result _ _
-    (λ text h. judged (record { before = _; after = _; heading = _; room = refl; read = c.in-Ok.ensures.outcome; draft = h.1 }) h.2)
-    c.solve.ensures
+    let found = c.in-Ok.ensures in
+    let s = found.solved in
+    let front = front_read _ _ s.moves c.from.result s.written (c.from.ensures ∙ sym (said_length found.task s.moves c.in-Ok.reply s.says)) in
+    IfOk-weaker c.answer_text.result _ _
+    (λ text e. solved found.says_task (record { reply = c.in-Ok.reply; moves = s.moves; says = s.says; by_rules = s.by_rules; bytes = e ∙ ap (text_of_answer c.in-Ok.reply) front }))
+    c.answer_text.ensures
+
+pub returns-in-Err : goal.returns-in-Err
+returns-in-Err c = IfOk-weaker c.to_string.result _ _ (λ text. refused c.in-Err.ensures) c.to_string.ensures.ok

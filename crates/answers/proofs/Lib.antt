@@ -1,2 +1,0 @@
-mod Announced
-mod Commas
