@@ -194,14 +194,18 @@ part_cut rest item more y e f =
     let comma : y ≡ 44 = sym (ap (λ l. get_or l (length item) 0) e ∙ get_or_at item y more 0 (length item) refl) ∙ eqb-true _ 44 first in
     record { parts = e ∙ ap (λ b. item ++ b ∷ more) comma; first = part_lacks rest item (y ∷ more) e f }
 
-pub left_more : (v : List ℕ) (s t : Listing) (ends : Bool) (rest item more : List ℕ) → Left v s false rest → Part rest item ends more → TookItem s item t → Left v t ends more
-left_more v s t true rest item more l (e, f) k =
-    let lacks = subst (Lacks 44) (sym e) (part_lacks rest item [] (e ∙ sym (append-nil item)) f) in
-    l (ok_or t.facts OutOfRange) (last s t rest lacks (subst (λ i. TookItem s i t) (sym e) k) t.facts refl)
-left_more v s t false rest item more l (p, f) k = λ r g. l r (step s t rest item more (part_cut rest item more p.0 p.1 f) k r g)
+module _ (v rest : List ℕ) (s : Listing) (d : Bool) (open_yet : d ≡ false) (left : Left v s d rest) where
+  before_end : (r : Result FactSet Flaw) → From s rest r → SetRead v r
+  before_end = subst (λ x. Left v s x rest) open_yet left
 
-pub left_refused : (v : List ℕ) (s : Listing) (ends : Bool) (rest item more : List ℕ) → Left v s false rest → Part rest item ends more → Refused s item → SetRead v (Err Malformed)
-left_refused v s true rest item more l (e, f) h =
-    let lacks = subst (Lacks 44) (sym e) (part_lacks rest item [] (e ∙ sym (append-nil item)) f) in
-    l (Err Malformed) (refused_last s rest lacks (subst (Refused s) (sym e) h))
-left_refused v s false rest item more l (p, f) h = l (Err Malformed) (refused_item s rest item more (part_cut rest item more p.0 p.1 f) h)
+  pub left_more : (t : Listing) (ends : Bool) (item more : List ℕ) → Part rest item ends more → TookItem s item t → Left v t ends more
+  left_more t true item more (e, f) k =
+      let lacks = subst (Lacks 44) (sym e) (part_lacks rest item [] (e ∙ sym (append-nil item)) f) in
+      before_end (ok_or t.facts OutOfRange) (last s t rest lacks (subst (λ i. TookItem s i t) (sym e) k) t.facts refl)
+  left_more t false item more (p, f) k = λ r g. before_end r (step s t rest item more (part_cut rest item more p.0 p.1 f) k r g)
+
+  pub left_refused : (ends : Bool) (item more : List ℕ) → Part rest item ends more → Refused s item → SetRead v (Err Malformed)
+  left_refused true item more (e, f) h =
+      let lacks = subst (Lacks 44) (sym e) (part_lacks rest item [] (e ∙ sym (append-nil item)) f) in
+      before_end (Err Malformed) (refused_last s rest lacks (subst (Refused s) (sym e) h))
+  left_refused false item more (p, f) h = before_end (Err Malformed) (refused_item s rest item more (part_cut rest item more p.0 p.1 f) h)

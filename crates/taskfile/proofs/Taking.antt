@@ -49,8 +49,8 @@ refused a line after c f (v, rest, e) =
     f r.0 r.1
 
 -- the line begins with the lead of k, and w is what follows it
-pub took : (a b : Reader) (k : Key) (w : Value) (got : Value × Key) (line : List ℕ) → Cut 10 a.rest.now line b.rest.now → a.expected ≡ k → got ≡ (w, after k) → is_number w ≡ one_number k → length (lead k) ≤ length line → HasBytesAt line 0 (lead k) → written w ≡ take (length line - length (lead k)) (drop (length (lead k)) line) → b.expected ≡ got.1 → b.line ≡ a.line + 1 → TookLine a got.0 b
-took a b k w got line c e g s long led rest next count =
+pub took : {a b : Reader} {k : Key} {w : Value} {got : Value × Key} {line : List ℕ} → Cut 10 a.rest.now line b.rest.now → a.expected ≡ k → got ≡ (w, after k) → is_number w ≡ one_number k → length (lead k) ≤ length line → HasBytesAt line 0 (lead k) → written w ≡ take (length line - length (lead k)) (drop (length (lead k)) line) → b.expected ≡ got.1 → b.line ≡ a.line + 1 → TookLine a got.0 b
+took {a = a} {b = b} {k = k} {w = w} {got = got} {line = line} c e g s long led rest next count =
     let h : line ≡ lead k ++ written w = begins (lead k) line long led ∙ ap (λ t. lead k ++ t) (sym (rest ∙ take_rest line (length (lead k)))) in
     let line_is : Line k w a.rest.now b.rest.now = record {
       text = c.parts ∙ ap (λ l. l ++ 10 ∷ b.rest.now) h ∙ append_assoc (lead k) (written w) (10 ∷ b.rest.now);

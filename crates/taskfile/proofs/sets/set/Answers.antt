@@ -1,7 +1,7 @@
-use Rattle.std.proofs.Common.{rules, eqb, refl, subst, arith, false-eqb}
+use Rattle.std.proofs.Common.{rules, eqb, refl, arith, false-eqb}
 use Rattle.std.proofs.lemmas.List.Sorted.{answers_always}
 use Rattle.taskfile.proofs.Exits.{exits}
-use Rattle.taskfile.proofs.Listings.{Left, start, left_more, left_refused}
+use Rattle.taskfile.proofs.Listings.{start, left_more, left_refused}
 use Rattle.taskfile.proofs.sets.set.Goals as goal
 
 pub loop-item-init : goal.loop-item-init
@@ -13,17 +13,11 @@ loop-item-init c =
 pub returns-in_err-read : goal.returns-in_err-read
 returns-in_err-read c =
     let f = c.in_err-read.ensures in
-    let l = c.loop-item in
     let z = c.in-Some.ensures.steps in
     rw (exits c.from_residual.ensures.1, f.0)
-    (left_refused c.args.v.now l.read c.next.new.self.done l.item-iterator.rest.now c.in-Some.item.now c.next.new.self.rest.now
-    (subst (λ d. Left c.args.v.now l.read d l.item-iterator.rest.now) z.0 l.invariant)
-    (z.1, (z.2 (λ b. eqb b 44) (answers_always _ _ _ (λ f a r g h. search rules))).1) f.1)
+    (left_refused _ _ _ _ z.0 c.loop-item.invariant _ _ c.next.new.self.rest.now (z.1, (z.2 (λ b. eqb b 44) (answers_always _ _ _ (λ f a r g h. search rules))).1) f.1)
 
 pub loop-item-preserved : goal.loop-item-preserved
 loop-item-preserved c =
-    let l = c.loop-item in
     let z = c.in-Some.ensures.steps in
-    left_more c.args.v.now l.read c.in_ok-read.read c.next.new.self.done l.item-iterator.rest.now c.in-Some.item.now c.next.new.self.rest.now
-    (subst (λ d. Left c.args.v.now l.read d l.item-iterator.rest.now) z.0 l.invariant)
-    (z.1, (z.2 (λ b. eqb b 44) (answers_always _ _ _ (λ f a r g h. search rules))).1) c.in_ok-read.ensures
+    left_more _ _ _ _ z.0 c.loop-item.invariant _ _ _ _ (z.1, (z.2 (λ b. eqb b 44) (answers_always _ _ _ (λ f a r g h. search rules))).1) c.in_ok-read.ensures
