@@ -1,5 +1,5 @@
 // What the goal of a task costs at least, by the pair table of all groups.
-ghost use Rattle.std.specs.Prelude.{◌≡◌, Some};
+ghost use Rattle.std.specs.Prelude.{Some};
 ghost use Rattle.answers.specs.Floors.{floor_text, IsFloor};
 
 use bounds::Bound;

@@ -10,17 +10,11 @@ use tasks::{Draft, Move};
 
 // The minutes, `None` for never.
 fn minutes(estimate: Estimate<Minutes>) -> Option<u32> {
-    match estimate {
-        Some(cost) => Some(cost.total),
-        None => None,
-    }
+    estimate.map(|cost| cost.total)
 }
 
 fn highest(estimate: Estimate<Worst>) -> Option<u16> {
-    match estimate {
-        Some(cost) => Some(cost.highest),
-        None => None,
-    }
+    estimate.map(|cost| cost.highest)
 }
 
 // The single table's estimate of the goal, with these groups counted.

@@ -1,5 +1,5 @@
 use facts::FactSet;
-use samples::{move_of, set_of, task_of};
+use samples::{draft_of, move_of, set_of, task_of};
 use std::test::Fail;
 use tasks::{Draft, Move, Task};
 
@@ -137,22 +137,15 @@ fn numbers_of_moves(rt: HostRuntime) -> Result<(), Fail> {
 
 // What carrying out comes to: the facts at the end and whether the goal stands, or where it gets stuck.
 fn carried(task: &Task<'_>, list: &[u16]) -> Result<(FactSet, bool), usize> {
-    match task.carry(list) {
-        Ok(end) => Ok((end.facts, end.goal)),
-        Err(stuck) => Err(stuck.at),
-    }
+    task.carry(list)
+        .map(|end| (end.facts, end.goal))
+        .map_err(|stuck| stuck.at)
 }
 
 #[test]
 fn lists_carried_out(rt: HostRuntime) -> Result<(), Fail> {
     let moves = [move_of(&[0], &[1], &[0])?, move_of(&[], &[2], &[])?];
-    let draft = Draft {
-        facts: 3,
-        start: set_of(&[0])?,
-        goal: set_of(&[1, 2])?,
-        moves: &moves,
-    };
-    let task = task_of(draft)?;
+    let task = task_of(draft_of(&moves)?)?;
     assert_eq!(rt; carried(&task, &[0, 1]), Ok((set_of(&[1, 2])?, true)));
     assert_eq!(rt; carried(&task, &[1]), Ok((set_of(&[0, 2])?, false)));
     assert_eq!(rt; carried(&task, &[]), Ok((set_of(&[0])?, false)));

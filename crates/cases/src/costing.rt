@@ -39,10 +39,7 @@ fn worst_takes_the_larger(rt: HostRuntime) {
 
 // The total, or `None` for never.
 fn total(estimate: Estimate<Minutes>) -> Option<u32> {
-    match estimate {
-        Some(m) => Some(m.total),
-        None => None,
-    }
+    estimate.map(|cost| cost.total)
 }
 
 #[test]
