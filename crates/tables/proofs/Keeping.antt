@@ -1,8 +1,9 @@
 -- The rules as they are tested.
-use Rattle.std.proofs.Common.{◌≡◌, ℕ, Bool, true, false, ◌&&◌, T, eqb, List, [], ◌∷◌, Decides, sym, refl, ap, ◌∙◌, subst}
+use Rattle.std.proofs.Common.{◌≡◌, ◌↔◌, IsTrue, ℕ, Bool, ◌&&◌, T, List, Decides, sym, ap, ◌∙◌, subst}
+use Rattle.std.specs.Cmp.Lexicographic.{pointwise, pointwise_decides}
 use Rattle.facts.specs.Sets.{has}
 use Rattle.facts.specs.declared.sets.FactSet.{FactSet}
-use Rattle.facts.proofs.Tests.{from_true, to_true}
+use Rattle.facts.proofs.Tests.{to_true}
 use Rattle.tasks.specs.Places.{At}
 use Rattle.tasks.specs.Tasks.{facts_of, start_of, moves_of}
 use Rattle.tasks.specs.declared.moves.Move.{Move}
@@ -12,7 +13,7 @@ use Rattle.costs.specs.declared.estimate.Estimate.TheVariants.{Value}
 use Rattle.costs.specs.declared.tally.Tally.{Ghosts}
 use Rattle.bounds.specs.Sound.{NotAbove, Sound}
 use Rattle.tables.specs.Equation.{Setting, offer_of}
-use Rattle.tables.specs.Fitting.{SameTask, SingleFits, is_same_set, is_same_move, is_same_moves, is_same_task, keeps_single}
+use Rattle.tables.specs.Fitting.{SameTask, SingleFits, is_same_set, is_same_move, is_same_task, keeps_single}
 use Rattle.tables.specs.Reading.{estimate_by_singles, share_at}
 use Rattle.tables.specs.Rules.{SingleRules}
 use Rattle.tables.specs.Settling.{singles}
@@ -29,30 +30,21 @@ set_tells s u = decides_like (λ e i. record { word = e i }) (λ e. ap (λ x. x.
 
 move_tells : (m n : Move) → Decides (is_same_move m n) (m ≡ n)
 move_tells m n = decides_like
-    (λ w i. record { group = w.0.0 i; price = w.0.1 i; needs = w.1.0 i; makes = w.1.1.0 i; breaks = w.1.1.1 i })
-    (λ e. ((ap (λ x. x.group) e, ap (λ x. x.price) e), (ap (λ x. x.needs) e, (ap (λ x. x.makes) e, ap (λ x. x.breaks) e))))
-    (decides_and (eqb m.group n.group && eqb m.price n.price) (is_same_set m.needs n.needs && (is_same_set m.makes n.makes && is_same_set m.breaks n.breaks))
-    (decides_and (eqb m.group n.group) (eqb m.price n.price) (decides_equal m.group n.group) (decides_equal m.price n.price))
-    (decides_and (is_same_set m.needs n.needs) (is_same_set m.makes n.makes && is_same_set m.breaks n.breaks) (set_tells m.needs n.needs)
-    (decides_and (is_same_set m.makes n.makes) (is_same_set m.breaks n.breaks) (set_tells m.makes n.makes) (set_tells m.breaks n.breaks))))
+    (λ w i. record { group = w.0 i; price = w.1.0 i; needs = w.1.1.0 i; makes = w.1.1.1.0 i; breaks = w.1.1.1.1 i })
+    (λ e. (ap (λ x. x.group) e, (ap (λ x. x.price) e, (ap (λ x. x.needs) e, (ap (λ x. x.makes) e, ap (λ x. x.breaks) e)))))
+    (decides_and _ _ (decides_equal m.group n.group) (decides_and _ _ (decides_equal m.price n.price)
+    (decides_and _ _ (set_tells m.needs n.needs) (decides_and _ _ (set_tells m.makes n.makes) (set_tells m.breaks n.breaks)))))
 
-head_is : {m n : Move} {ms ns : List Move} → (m ∷ ms) ≡ (n ∷ ns) → m ≡ n
-head_is e = cc
-
-tail_is : {m n : Move} {ms ns : List Move} → (m ∷ ms) ≡ (n ∷ ns) → ms ≡ ns
-tail_is e = cc
-
-moves_tell : (ms ns : List Move) → Decides (is_same_moves ms ns) (ms ≡ ns)
-unfolding is_same_moves
-moves_tell [] [] = ((λ e. refl), λ e. refl)
-moves_tell [] (n ∷ ns) = ((λ e. absurd (from_true e)), λ e. let z : false ≡ true = cc in z)
-moves_tell (m ∷ ms) [] = ((λ e. absurd (from_true e)), λ e. let z : false ≡ true = cc in z)
-moves_tell (m ∷ ms) (n ∷ ns) = decides_like (λ w i. w.0 i ∷ w.1 i) (λ e. (head_is e, tail_is e)) (decides_and (is_same_move m n) (is_same_moves ms ns) (move_tells m n) (moves_tell ms ns))
+moves_tell : (ms ns : List Move) → Decides (pointwise is_same_move ms ns) (ms ≡ ns)
+moves_tell = pointwise_decides move_tells
 
 pub task_tells : (b : Setting) (t : Task) → Decides (is_same_task b t) (SameTask b t)
 task_tells b t = decides_like (λ w. record { facts = w.0; start = w.1.0; moves = w.1.1 }) (λ s. (s.facts, (s.start, s.moves)))
-    (decides_and (eqb b.facts (facts_of t)) (is_same_set b.start (start_of t) && is_same_moves b.moves (moves_of t)) (decides_equal b.facts (facts_of t))
-    (decides_and (is_same_set b.start (start_of t)) (is_same_moves b.moves (moves_of t)) (set_tells b.start (start_of t)) (moves_tell b.moves (moves_of t))))
+    (decides_and _ _ (decides_equal b.facts (facts_of t))
+    (decides_and _ _ (set_tells b.start (start_of t)) (moves_tell b.moves (moves_of t))))
+
+pub task_told : (b : Setting) (t : Task) (r : Bool) → r ≡ is_same_task b t → IsTrue r ↔ SameTask b t
+task_told b t r is = subst (λ x. IsTrue x ↔ SameTask b t) (sym is) (task_tells b t)
 
 module _ {V : Type 0} {tally : Ghosts V} (laws : LawsOf tally) (b : Setting) (val : ℕ → Estimate V) where
   -- the facts of the start are nil, and each head is at most what its move offers

@@ -1,5 +1,6 @@
 -- When the bound over a table fits a task, and how that is told.
-use Rattle.std.specs.Prelude.{◌≡◌, ℕ, zero, suc, ◌+◌, Bool, true, false, not, ◌&&◌, ◌||◌, List, [], ◌∷◌, ◌==◌}
+use Rattle.std.specs.Prelude.{◌≡◌, ℕ, zero, suc, ◌+◌, Bool, true, not, ◌&&◌, ◌||◌, List, [], ◌∷◌, ◌==◌}
+use Rattle.std.specs.Cmp.Lexicographic.{pointwise}
 use Rattle.facts.specs.Sets.{has}
 use Rattle.facts.specs.declared.sets.FactSet.{FactSet}
 use Rattle.tasks.specs.Tasks.{facts_of, start_of, moves_of}
@@ -37,16 +38,10 @@ abbrev pub is_same_set : FactSet → FactSet → Bool
 is_same_set s u = s.word == u.word
 
 abbrev pub is_same_move : Move → Move → Bool
-is_same_move m n = (m.group == n.group && m.price == n.price) && (is_same_set m.needs n.needs && (is_same_set m.makes n.makes && is_same_set m.breaks n.breaks))
-
-unfoldable pub is_same_moves : List Move → List Move → Bool
-is_same_moves [] [] = true
-is_same_moves [] (n ∷ ns) = false
-is_same_moves (m ∷ ms) [] = false
-is_same_moves (m ∷ ms) (n ∷ ns) = is_same_move m n && is_same_moves ms ns
+is_same_move m n = m.group == n.group && (m.price == n.price && (is_same_set m.needs n.needs && (is_same_set m.makes n.makes && is_same_set m.breaks n.breaks)))
 
 abbrev pub is_same_task : Setting → Task → Bool
-is_same_task b t = b.facts == facts_of t && (is_same_set b.start (start_of t) && is_same_moves b.moves (moves_of t))
+is_same_task b t = b.facts == facts_of t && (is_same_set b.start (start_of t) && pointwise is_same_move b.moves (moves_of t))
 
 unfoldable pub every : ℕ → (ℕ → Bool) → Bool
 every zero test = true

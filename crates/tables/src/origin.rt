@@ -1,7 +1,7 @@
 // What a table was worked out from.
-ghost use Rattle.std.specs.Prelude.{◌≡◌, Decides};
+ghost use Rattle.std.specs.Prelude.{◌≡◌, ◌↔◌, IsTrue};
 ghost use Rattle.tables.specs.Equation.{setting_of};
-ghost use Rattle.tables.specs.Fitting.{setting_in, SameTask};
+ghost use Rattle.tables.specs.Fitting.{setting_in, is_same_task, SameTask};
 
 use facts::FactSet;
 use tasks::{Move, Task};
@@ -30,40 +30,9 @@ impl<'a> Origin<'a> {
 
     // Whether the task has the same facts, start and moves; its goal may be any.
     pub fn is_of(&self, task: &Task<'_>) -> bool
-        ensures { Decides result (SameTask (setting_in self.now) task.now) }
+        ensures told { result ≡ is_same_task (setting_in self.now) task.now }
+        ensures exact { IsTrue result ↔ SameTask (setting_in self.now) task.now }
     {
-        self.facts == task.facts()
-            && same_set(self.start, task.start())
-            && same_moves(self.moves, task.moves())
+        self.facts == task.facts() && self.start == task.start() && self.moves == task.moves()
     }
-}
-
-fn same_set(one: FactSet, other: FactSet) -> bool
-    ensures { Decides result (one ≡ other) }
-{
-    one.is_within(other) && other.is_within(one)
-}
-
-fn same_move(one: &Move, other: &Move) -> bool
-    ensures { Decides result (one.now ≡ other.now) }
-{
-    one.group == other.group
-        && one.price == other.price
-        && same_set(one.needs, other.needs)
-        && same_set(one.makes, other.makes)
-        && same_set(one.breaks, other.breaks)
-}
-
-fn same_moves(one: &[Move], other: &[Move]) -> bool
-    ensures { Decides result (one.now ≡ other.now) }
-{
-    if one.len() != other.len() {
-        return false;
-    }
-    for number in 0..one.len() {
-        if !same_move(&one[number], &other[number]) {
-            return false;
-        }
-    }
-    true
 }

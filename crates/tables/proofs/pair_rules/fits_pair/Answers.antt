@@ -18,9 +18,9 @@ returns-then-is_of g c =
     let is : keeps ≡ (same && keeps) = sym (ap (λ x. x && keeps) c.if-is_of.true) in
     let e = c.keeps_pair_rules.ensures in
     record {
-      told = pair_told laws b val out t same keeps keeps is c.is_of.ensures e;
-      sound = pair_sound laws b val out t same keeps keeps is c.is_of.ensures e;
-      exact = pair_exact laws b val out t same keeps keeps is c.is_of.ensures e;
+      told = pair_told laws b val out t same keeps keeps is c.is_of.ensures.exact e;
+      sound = pair_sound laws b val out t same keeps keeps is c.is_of.ensures.exact e;
+      exact = pair_exact laws b val out t same keeps keeps is c.is_of.ensures.exact e;
     }
 
 pub returns-else-is_of : goal.returns-else-is_of
@@ -34,7 +34,7 @@ returns-else-is_of g c =
     let keeps = keeps_pair g.V.Tally b val in
     let is : same ≡ (same && keeps) = c.if-is_of.false ∙ sym (ap (λ x. x && keeps) c.if-is_of.false) in
     record {
-      told = pair_told laws b val out t same keeps same is c.is_of.ensures (pair_tells laws b val out);
-      sound = pair_sound laws b val out t same keeps same is c.is_of.ensures (pair_tells laws b val out);
-      exact = pair_exact laws b val out t same keeps same is c.is_of.ensures (pair_tells laws b val out);
+      told = pair_told laws b val out t same keeps same is c.is_of.ensures.exact (pair_tells laws b val out);
+      sound = pair_sound laws b val out t same keeps same is c.is_of.ensures.exact (pair_tells laws b val out);
+      exact = pair_exact laws b val out t same keeps same is c.is_of.ensures.exact (pair_tells laws b val out);
     }

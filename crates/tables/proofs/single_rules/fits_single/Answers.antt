@@ -16,9 +16,9 @@ returns-then-is_of g c =
     let is : keeps ≡ (same && keeps) = sym (ap (λ x. x && keeps) c.if-is_of.true) in
     let e = c.keeps_single_rules.ensures in
     record {
-      told = single_told laws b val t same keeps keeps is c.is_of.ensures e;
-      sound = single_sound laws b val t same keeps keeps is c.is_of.ensures e;
-      exact = single_exact laws b val t same keeps keeps is c.is_of.ensures e;
+      told = single_told laws b val t same keeps keeps is c.is_of.ensures.exact e;
+      sound = single_sound laws b val t same keeps keeps is c.is_of.ensures.exact e;
+      exact = single_exact laws b val t same keeps keeps is c.is_of.ensures.exact e;
     }
 
 pub returns-else-is_of : goal.returns-else-is_of
@@ -31,7 +31,7 @@ returns-else-is_of g c =
     let keeps = keeps_single g.V.Tally b val in
     let is : same ≡ (same && keeps) = c.if-is_of.false ∙ sym (ap (λ x. x && keeps) c.if-is_of.false) in
     record {
-      told = single_told laws b val t same keeps same is c.is_of.ensures (single_tells laws b val);
-      sound = single_sound laws b val t same keeps same is c.is_of.ensures (single_tells laws b val);
-      exact = single_exact laws b val t same keeps same is c.is_of.ensures (single_tells laws b val);
+      told = single_told laws b val t same keeps same is c.is_of.ensures.exact (single_tells laws b val);
+      sound = single_sound laws b val t same keeps same is c.is_of.ensures.exact (single_tells laws b val);
+      exact = single_exact laws b val t same keeps same is c.is_of.ensures.exact (single_tells laws b val);
     }
