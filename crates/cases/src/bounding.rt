@@ -5,7 +5,7 @@ use facts::FactSet;
 use std::marker::PhantomData;
 use std::process::Abort;
 use std::test::Fail;
-use tables::{Pair, Single, work_out_pair, work_out_single};
+use tables::{One, Pair, Single, Two, work_out};
 use tasks::{Draft, Move};
 
 // Move 0 turns fact 0 into fact 1, at 15; move 1, of group 1, makes fact 2, at 4.
@@ -54,7 +54,7 @@ fn single(rt: &impl Abort, groups: u8) -> Result<Option<u32>, Fail> {
         return Err(Fail::new("refused"));
     };
     let mut table = [Estimate::<Minutes>::Never; 3];
-    assert!(rt; work_out_single(&task, groups, &mut table).is_ok());
+    assert!(rt; work_out::<One, Minutes>(&task, groups, &mut table).is_ok());
     Ok(minutes(Single::of(&task, groups, &table).estimate(task.goal())))
 }
 
@@ -65,7 +65,7 @@ fn pair(rt: &impl Abort, set: FactSet) -> Result<Option<u32>, Fail> {
         return Err(Fail::new("refused"));
     };
     let mut table = [Estimate::<Minutes>::Never; 9];
-    assert!(rt; work_out_pair(&task, 255, &mut table).is_ok());
+    assert!(rt; work_out::<Two, Minutes>(&task, 255, &mut table).is_ok());
     Ok(minutes(Pair::of(&task, 255, &table).estimate(set)))
 }
 
@@ -77,8 +77,8 @@ fn sum(rt: &impl Abort, one: u8, other: u8) -> Result<(Option<u32>, bool), Fail>
     };
     let mut first = [Estimate::<Minutes>::Never; 3];
     let mut second = [Estimate::<Minutes>::Never; 3];
-    assert!(rt; work_out_single(&task, one, &mut first).is_ok());
-    assert!(rt; work_out_single(&task, other, &mut second).is_ok());
+    assert!(rt; work_out::<One, Minutes>(&task, one, &mut first).is_ok());
+    assert!(rt; work_out::<One, Minutes>(&task, other, &mut second).is_ok());
     let both = Sum {
         one: Single::of(&task, one, &first),
         other: Single::of(&task, other, &second),
@@ -109,8 +109,8 @@ fn sums_in_worst(rt: HostRuntime) -> Result<(), Fail> {
     };
     let mut all = [Estimate::<Worst>::Never; 3];
     let mut second = [Estimate::<Worst>::Never; 3];
-    assert!(rt; work_out_single(&task, 255, &mut all).is_ok());
-    assert!(rt; work_out_single(&task, 2, &mut second).is_ok());
+    assert!(rt; work_out::<One, Worst>(&task, 255, &mut all).is_ok());
+    assert!(rt; work_out::<One, Worst>(&task, 2, &mut second).is_ok());
     let both = Sum {
         one: Single::of(&task, 255, &all),
         other: Single::of(&task, 2, &second),
@@ -127,7 +127,7 @@ fn worst_pair(rt: &impl Abort, groups: u8) -> Result<Option<u16>, Fail> {
         return Err(Fail::new("refused"));
     };
     let mut table = [Estimate::<Worst>::Never; 9];
-    assert!(rt; work_out_pair(&task, groups, &mut table).is_ok());
+    assert!(rt; work_out::<Two, Worst>(&task, groups, &mut table).is_ok());
     Ok(highest(Pair::of(&task, groups, &table).estimate(task.goal())))
 }
 
@@ -145,7 +145,7 @@ fn a_pile_of_bounds(rt: HostRuntime) -> Result<(), Fail> {
         return Err(Fail::new("refused"));
     };
     let mut table = [Estimate::<Minutes>::Never; 9];
-    assert!(rt; work_out_pair(&task, 255, &mut table).is_ok());
+    assert!(rt; work_out::<Two, Minutes>(&task, 255, &mut table).is_ok());
     let pair = Pair::of(&task, 255, &table);
     let blind = Blind { of: PhantomData };
     let pile = Higher {
@@ -186,7 +186,7 @@ fn moves_that_need_each_other(rt: HostRuntime) -> Result<(), Fail> {
         return Err(Fail::new("refused"));
     };
     let mut table = [Estimate::<Minutes>::Never; 2];
-    assert!(rt; work_out_single(&task, 255, &mut table).is_ok());
+    assert!(rt; work_out::<One, Minutes>(&task, 255, &mut table).is_ok());
     assert_eq!(rt; minutes(table[0]), None);
     assert_eq!(rt; minutes(table[1]), None);
     Ok(())
@@ -250,7 +250,7 @@ fn fits_other(rt: &impl Abort, draft: Draft<'_>) -> Result<bool, Fail> {
         return Err(Fail::new("refused"));
     };
     let mut table = [Estimate::<Minutes>::Never; 3];
-    assert!(rt; work_out_single(&task, 255, &mut table).is_ok());
+    assert!(rt; work_out::<One, Minutes>(&task, 255, &mut table).is_ok());
     Ok(Single::of(&task, 255, &table).fits(&other))
 }
 
@@ -304,7 +304,7 @@ fn short_tables(rt: HostRuntime) -> Result<(), Fail> {
         return Err(Fail::new("refused"));
     };
     let mut table = [value(0), value(15)];
-    assert!(rt; work_out_single(&task, 255, &mut table).is_err());
+    assert!(rt; work_out::<One, Minutes>(&task, 255, &mut table).is_err());
     assert_eq!(rt;
         minutes(Single::of(&task, 255, &table).estimate(task.goal())),
         None

@@ -9,7 +9,8 @@ use Rattle.tasks.specs.declared.task.Task.{Task}
 use Rattle.costs.specs.declared.estimate.Estimate.{Estimate}
 use Rattle.costs.specs.declared.minutes.Minutes.{Minutes}
 use Rattle.tables.specs.Equation.{setting_of}
-use Rattle.tables.specs.Worked.{WorksOutPairs, PairsTable}
+use Rattle.tables.specs.Nets.{pairs}
+use Rattle.tables.specs.Worked.{WorksOut, Table}
 use Rattle.tables.specs.declared.refusal.TableTooShort.{TableTooShort}
 use Rattle.solutions.specs.Solutions.{minutes}
 
@@ -17,7 +18,7 @@ few_facts : (t : Task) → Checked t → facts_of t ≤ 64
 few_facts t checked = ⊎_elim (λ l. absurd (checked OutOfRange Heading (inr (inl l)))) (λ l. l) (cases_lt 64 (facts_of t))
 
 pub worked_out : (t : Task) (groups : ℕ) → Checked t → (old new : List (Estimate Minutes)) → length old ≡ 4096 → (r : Result ℕ TableTooShort)
-    → WorksOutPairs minutes t groups old new r → PairsTable minutes (setting_of t groups) new
+    → WorksOut minutes (pairs minutes (setting_of t groups)) t old new r → Table minutes (pairs minutes (setting_of t groups)) new
 worked_out t groups checked old new places (Ok n) h = h.2 checked
 worked_out t groups checked old new places (Err short) h =
     let few = few_facts t checked in absurd (omega (arith, places, h.0, mul-le (facts_of t) (facts_of t) 64 64 few few))

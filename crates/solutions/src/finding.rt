@@ -2,13 +2,14 @@
 ghost use Rattle.std.specs.Prelude.{◌≡◌, ◌≤◌, length};
 ghost use Rattle.tasks.specs.Tasks.{Checked};
 ghost use Rattle.tables.specs.Equation.{setting_of};
-ghost use Rattle.tables.specs.Worked.{PairsTable};
+ghost use Rattle.tables.specs.Nets.{pairs as pair_net};
+ghost use Rattle.tables.specs.Worked.{Table};
 ghost use Rattle.solutions.specs.Solutions.{Found, Solved, minutes};
 
 use costs::{Estimate, Minutes, Tally};
 use facts::FactSet;
 use queues::{Call, Told, queue};
-use tables::{Pair, work_out_pair};
+use tables::{Pair, Two, work_out};
 use taskfile::Heading;
 use tasks::{Fault, Move, Task, check};
 use theory::{Mark, Record, Refusal, Reply};
@@ -37,14 +38,14 @@ fn search(task: Task<'_>, list: &mut [u16]) -> Reply<Minutes>
     ensures { Solved task.entry list.old list.new result }
 {
     let mut pairs = [Estimate::<Minutes>::Never; 4096];
-    let _ = work_out_pair(&task, 255, &mut pairs);
+    let _ = work_out::<Two, Minutes>(&task, 255, &mut pairs);
     search_by(task, &pairs, list)
 }
 
 // The same by the pair table of the task.
 fn search_by(task: Task<'_>, pairs: &[Estimate<Minutes>], list: &mut [u16]) -> Reply<Minutes>
     requires checked { Checked task }
-    requires worked { PairsTable minutes (setting_of task 255) pairs.now }
+    requires worked { Table minutes (pair_net minutes (setting_of task 255)) pairs.now }
     requires room { length list.old ≡ 1024 }
     ensures { Solved task.entry list.old list.new result }
 {

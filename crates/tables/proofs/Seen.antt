@@ -6,7 +6,7 @@ use Rattle.tasks.specs.declared.refusal.Place.TheVariants.{Heading, Move as OfMo
 use Rattle.tasks.specs.declared.refusal.Refusal.TheVariants.{OutOfRange, UnknownFact}
 use Rattle.tasks.specs.declared.task.Task.{Task}
 use Rattle.tables.specs.Equation.{setting_of}
-use Rattle.tables.proofs.Solutions.{Known}
+use Rattle.tables.specs.Laid.{Known}
 
 pub few_facts : (t : Task) → Checked t → facts_of t ≤ 64
 few_facts t checked = ⊎_elim (λ l. absurd (checked OutOfRange Heading (inr (inl l)))) (λ l. l) (cases_lt 64 (facts_of t))

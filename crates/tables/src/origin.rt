@@ -1,8 +1,12 @@
 // What a table was worked out from.
 ghost use Rattle.std.specs.Prelude.{◌≡◌, ◌↔◌, IsTrue};
-ghost use Rattle.tables.specs.Equation.{setting_of};
-ghost use Rattle.tables.specs.Fitting.{setting_in, is_same_task, SameTask};
+ghost use Rattle.facts.specs.Words.{bit};
+ghost use Rattle.tables.specs.Equation.{setting_of, charge_if_counted, offer_of};
+ghost use Rattle.tables.specs.Origins.{setting_in};
+ghost use Rattle.tables.specs.Reading.{share_at};
+ghost use Rattle.tables.specs.Rules.{is_same_task, SameTask};
 
+use costs::{Estimate, Tally};
 use facts::FactSet;
 use tasks::{Move, Task};
 
@@ -35,4 +39,41 @@ impl<'a> Origin<'a> {
     {
         self.facts == task.facts() && self.start == task.start() && self.moves == task.moves()
     }
+
+    // The charge of a move if its group is counted, otherwise nil.
+    pub(crate) fn counted_charge<V: Tally>(&self, m: &Move) -> V
+        ensures { result ≡ charge_if_counted V.Tally self.now.groups m.now }
+    {
+        if is_counted(self.groups, m.group) {
+            V::charge(m.price, m.group)
+        } else {
+            V::nil()
+        }
+    }
+
+    // The counted charge of a move joined with an estimate.
+    pub(crate) fn offer<V: Tally>(&self, m: &Move, estimate: Estimate<V>) -> Estimate<V>
+        ensures { result ≡ offer_of V.Tally (setting_in self.now) m.now estimate }
+    {
+        Estimate::Value(self.counted_charge::<V>(m)).join(estimate)
+    }
+
+    // The counted charge of the move of this number, nil past the last move.
+    pub(crate) fn share<V: Tally>(&self, number: u16) -> V
+        ensures { result ≡ share_at V.Tally self.now.groups self.now.moves.now number }
+    {
+        let number = usize::from(number);
+        if number < self.moves.len() {
+            self.counted_charge(&self.moves[number])
+        } else {
+            V::nil()
+        }
+    }
+}
+
+// Whether the group is counted: bit i of `groups`, from the lowest, counts group i.
+fn is_counted(groups: u8, group: u8) -> bool
+    ensures { result ≡ bit groups group }
+{
+    group < 8 && (groups >> group) % 2 == 1
 }

@@ -4,7 +4,7 @@ use costs::{Estimate, Minutes, Tally};
 use search::Search;
 use std::marker::PhantomData;
 use std::test::Fail;
-use tables::{Single, work_out_single};
+use tables::{One, Single, work_out};
 use tasks::{Draft, Move, check as checked};
 
 // From fact 0 to facts 1 and 2.
@@ -67,8 +67,8 @@ fn an_overdrawn_bound(rt: HostRuntime) -> Result<(), Fail> {
     };
     let mut all = [Estimate::<Minutes>::Never; 3];
     let mut second = [Estimate::<Minutes>::Never; 3];
-    assert!(rt; work_out_single(&task, 255, &mut all).is_ok());
-    assert!(rt; work_out_single(&task, 2, &mut second).is_ok());
+    assert!(rt; work_out::<One, Minutes>(&task, 255, &mut all).is_ok());
+    assert!(rt; work_out::<One, Minutes>(&task, 2, &mut second).is_ok());
     let bound = Sum {
         one: Single::of(&task, 255, &all),
         other: Single::of(&task, 2, &second),
@@ -97,7 +97,7 @@ fn a_bound_of_another_task(rt: HostRuntime) -> Result<(), Fail> {
         return Err(Fail::new("refused"));
     };
     let mut costs = [Estimate::<Minutes>::Never; 3];
-    assert!(rt; work_out_single(&other, 255, &mut costs).is_ok());
+    assert!(rt; work_out::<One, Minutes>(&other, 255, &mut costs).is_ok());
     let bound = Single::of(&other, 255, &costs);
     let blind = Blind::<Minutes> { of: PhantomData };
     let mut table = [blank::<Minutes>(); 4];

@@ -5,7 +5,7 @@ use queues::{Call, Told, queue};
 use std::marker::PhantomData;
 use std::process::Abort;
 use std::test::Fail;
-use tables::{Pair, work_out_pair};
+use tables::{Pair, Two, work_out};
 use tasks::{Draft, check as checked};
 use theory::Refusal;
 
@@ -165,7 +165,7 @@ fn a_bound_that_knows(rt: HostRuntime) -> Result<(), Fail> {
         return Err(Fail::new("refused"));
     };
     let mut pairs = [Estimate::<Minutes>::Never; 9];
-    assert!(rt; work_out_pair(&task, 255, &mut pairs).is_ok());
+    assert!(rt; work_out::<Two, Minutes>(&task, 255, &mut pairs).is_ok());
     let bound = Pair::of(&task, 255, &pairs);
     let mut table = [blank(); 4];
     let mut told = [Told::Refused(Refusal::Misfit)];

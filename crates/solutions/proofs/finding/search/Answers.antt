@@ -9,4 +9,4 @@ use Rattle.solutions.proofs.finding.search.Goals as goal
 pub search_by-requires-clause-worked : goal.search_by-requires-clause-worked
 search_by-requires-clause-worked c =
     let blank : List (Estimate Minutes) = replicate 4096 Never in
-    worked_out c.args.task 255 c.requires.checked blank c.work_out_pair.new.table (length-replicate {A = Estimate Minutes} 4096 Never) c.work_out_pair.result c.work_out_pair.ensures
+    worked_out c.args.task 255 c.requires.checked blank c.work_out.new.table (length-replicate {A = Estimate Minutes} 4096 Never) c.work_out.result c.work_out.ensures

@@ -1,5 +1,5 @@
 use Rattle.std.proofs.Common.{rules}
-use Rattle.tables.specs.Fitting.{setting_in}
+use Rattle.tables.specs.Origins.{setting_in}
 use Rattle.tables.proofs.Keeping.{task_told}
 use Rattle.tables.proofs.origin.Origin.is_of.Goals as goal
 
