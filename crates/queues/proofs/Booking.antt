@@ -2,7 +2,6 @@
 use Rattle.std.proofs.Common.{◌≡◌, ℕ, ◌+◌, ◌<◌, ◌≤◌, List, [], ◌∷◌, length, set, Ok, Err, Result, sym, refl, ap, ◌∙◌, subst, subst₂, add-one, arith}
 use Rattle.std.proofs.lemmas.List.{length-set, drop-set-lt}
 use Rattle.tasks.specs.Places.{At}
-use Rattle.tasks.specs.Tasks.{Checked}
 use Rattle.tasks.specs.declared.task.Task.{Task}
 use Rattle.costs.specs.declared.tally.Tally.{Ghosts}
 use Rattle.theory.specs.Problem.{Lent}
@@ -40,9 +39,9 @@ module _ {V : Type 0} (tally : Ghosts V) (b : Lent V) {call : Call} {before : Li
       → Replied tally b call before before h later (told_of (answer_of r))
   ran_so {grant} {later} r is said = record {
     stays = record { task = said.task; grows = said.grows; rest = said.rest };
-    reply = λ checked. record {
+    reply = record {
       answer = answer_of r;
-      answered = subst (λ c. Answered tally (call_of b (length before) c) (answer_of r) h later) (sym is) (said.answered checked);
+      answered = subst (λ c. Answered tally (call_of b (length before) c) (answer_of r) h later) (sym is) said.answered;
       is = refl;
       list = by_result r;
     };
@@ -52,11 +51,11 @@ module _ {V : Type 0} (tally : Ghosts V) (b : Lent V) {call : Call} {before : Li
       by_result (Ok r) = refl
       by_result (Err why) = refl
 
-  pub read_so : {room n : ℕ} {after : List ℕ} → call ≡ ReadOut room → (Checked h.task → ReadFront tally h room before after (Ok n))
+  pub read_so : {room n : ℕ} {after : List ℕ} → call ≡ ReadOut room → ReadFront tally h room before after (Ok n)
       → Replied tally b call before after h h (Read n)
   read_so {room} {n} {after} is said = record {
     stays = stays_put h;
-    reply = λ checked. (let got = said checked in record {
+    reply = (let got = said in record {
       answer = rules.read got.0;
       answered = subst (λ c. Answered tally (call_of b (length before) c) (rules.read got.0) h h) (sym is) got.2;
       is = ap Read got.1.told;
@@ -64,11 +63,11 @@ module _ {V : Type 0} (tally : Ghosts V) (b : Lent V) {call : Call} {before : Li
     });
   }
 
-  pub refused_so : {room : ℕ} {why : Refusal} {after : List ℕ} → call ≡ ReadOut room → (Checked h.task → ReadFront tally h room before after (Err why))
+  pub refused_so : {room : ℕ} {why : Refusal} {after : List ℕ} → call ≡ ReadOut room → ReadFront tally h room before after (Err why)
       → Replied tally b call before after h h (Refused why)
   refused_so {room} {why} is said = record {
     stays = stays_put h;
-    reply = λ checked. (let got = said checked in record {
+    reply = (let got = said in record {
       answer = rules.refused why;
       answered = subst (λ c. Answered tally (call_of b (length before) c) (rules.refused why) h h) (sym is) got.1;
       is = refl;

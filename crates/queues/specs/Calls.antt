@@ -1,7 +1,6 @@
 -- Calls of a search and what they are answered, one after another.
 use Rattle.std.specs.Prelude.{◌≡◌, ℕ, zero, suc, ◌≤◌, min, List, [], ◌∷◌, ◌++◌, length, drop, Result, MatchResult}
 use Rattle.tasks.specs.Places.{At}
-use Rattle.tasks.specs.Tasks.{Checked}
 use Rattle.costs.specs.declared.tally.Tally.{Ghosts}
 use Rattle.theory.specs.Problem.{Problem, Lent}
 use Rattle.theory.specs.Promise.{records_of}
@@ -48,7 +47,7 @@ pub record Stays {V : Type 0} (h later : Held V) : Type 0 where
 
 pub record Replied {V : Type 0} (tally : Ghosts V) (b : Lent V) (call : Call) (before after : List ℕ) (h later : Held V) (told : Told V) : Type 0 where
   pub stays : Stays h later
-  pub reply : Checked h.task → Reply tally b call before after h later told
+  pub reply : Reply tally b call before after h later told
 
 -- a read-out into the first places of a list
 abbrev pub ReadFront : {V : Type 0} → Ghosts V → Held V → ℕ → (before after : List ℕ) → Result ℕ Refusal → Type 0
@@ -89,4 +88,4 @@ pub record Noted {V : Type 0} (n : ℕ) (before after : List (Told V)) : Type 0 
 pub record Serves {V : Type 0} (tally : Ghosts V) (b : Lent V) (calls : List Call) (told told' : List (Told V)) (list list' : List ℕ) (h later : Held V) : Type 0 where
   pub stays : Stays h later
   pub noted : Noted (min (length calls) (length told)) told told'
-  pub book : Checked h.task → Book tally b calls (min (length calls) (length told)) told' list list' h later
+  pub book : Book tally b calls (min (length calls) (length told)) told' list list' h later

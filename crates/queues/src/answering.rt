@@ -1,6 +1,5 @@
 // The calls of a queue, one after another.
 ghost use Rattle.std.specs.Prelude.{◌≡◌, ◌<◌, length, slice_set};
-ghost use Rattle.tasks.specs.Tasks.{Checked};
 ghost use Rattle.records.specs.Openings.{lent_of};
 ghost use Rattle.queues.specs.Calls.{Replied, ReadFront, Serves};
 
@@ -56,7 +55,7 @@ fn read_front<V: Tally>(
     room: usize,
     list: &mut [u16],
 ) -> Result<u16, Refusal>
-    ensures { Checked search.now.held.task → ReadFront V.Tally search.now.held room list.old list.new result }
+    ensures { ReadFront V.Tally search.now.held room list.old list.new result }
 {
     let places = room.min(list.len());
     search.read_out(&mut list[0..places])

@@ -1,5 +1,5 @@
 -- An opening: the moves taken one after another, and the choice shut.
-use Rattle.std.proofs.Common.{◌≡◌, ℕ, ◌+◌, ◌-◌, ◌<◌, ◌≤◌, List, length, take, drop, sym, ap, ◌∙◌, subst, subst₂, add-one, arith}
+use Rattle.std.proofs.Common.{◌≡◌, ℕ, ◌+◌, ◌-◌, ◌<◌, ◌≤◌, List, length, take, drop, sym, ap, ◌∙◌, subst, subst₂, add-one, arith, Some}
 use Rattle.std.proofs.lemmas.List.{drop-drop, length-set, drop-set-lt}
 use Rattle.facts.specs.declared.sets.FactSet.{FactSet}
 use Rattle.tasks.specs.Moves.{Regresses}
@@ -7,7 +7,6 @@ use Rattle.tasks.specs.Places.{At}
 use Rattle.tasks.specs.Tasks.{moves_of}
 use Rattle.tasks.specs.declared.moves.Move.{Move}
 use Rattle.tasks.proofs.Places.{at_less}
-use Rattle.costs.specs.declared.estimate.Estimate.TheVariants.{Value}
 use Rattle.costs.specs.declared.tally.Tally.{Ghosts}
 use Rattle.theory.specs.Openings.{child, LeadsTo, Unrecorded, Takes, TakesFirst, none_yet, and_next, Opens, opens, Overflows, overflows}
 use Rattle.theory.specs.Problem.{Problem}
@@ -65,7 +64,7 @@ module _ {V : Type 0} {tally : Ghosts V} (P : Problem tally) (before : List (Rec
         subst (λ k. TakesFirst P (take count before) i c k (take next table)) last so.0
 
     -- the move leads to a new record, which comes in or finds no room
-    module _ {m : Move} {t : FactSet} {e : V} (at : At (moves_of P.task) number m) (regresses : Regresses m c.set t) (hoped : P.bound.estimate t ≡ Value e) where
+    module _ {m : Move} {t : FactSet} {e : V} (at : At (moves_of P.task) number m) (regresses : Regresses m c.set t) (hoped : P.bound.estimate t ≡ Some e) where
       lead : LeadsTo P c m t e
       lead = record { regresses = regresses; hoped = hoped }
 

@@ -1,7 +1,7 @@
 // The opening of the choice: each move is taken from it in rising order, then it is shut.
 ghost use Rattle.std.specs.Prelude.{◌<◌, ◌≤◌, length, MatchOption};
 ghost use Rattle.tasks.specs.Places.{At};
-ghost use Rattle.tasks.specs.Tasks.{Checked, moves_of};
+ghost use Rattle.tasks.specs.Tasks.{moves_of};
 ghost use Rattle.records.specs.Tables.{Grows};
 ghost use Rattle.records.specs.Openings.{problem_of, TookAll, Opened};
 
@@ -26,14 +26,14 @@ pub fn open<V: Tally, B: Bound<Value = V>>(
     requires room { room ≤ length table.old }
     requires choice { choice.now.number < count }
     ensures grows { Grows table.old table.new count room result }
-    ensures opened { Checked task.now → Opened (problem_of V.Tally B.Bound task.now bound.now room) table.old table.new count choice.now.number choice.now.row result }
+    ensures opened { Opened (problem_of V.Tally B.Bound task.now bound.now room) table.old table.new count choice.now.number choice.now.row result }
 {
     let count = take_moves(task, bound, table, count, room, choice)?;
     shut(table, choice.number);
     Ok(count)
 }
 
-// Takes each move from the choice in rising order. A checked task has at most 1,024.
+// Takes each move from the choice in rising order. A task has at most 1,024.
 fn take_moves<V: Tally, B: Bound<Value = V>>(
     task: &Task<'_>,
     bound: &B,
@@ -45,7 +45,7 @@ fn take_moves<V: Tally, B: Bound<Value = V>>(
     requires count { count ≤ room }
     requires room { room ≤ length table.old }
     ensures grows { Grows table.old table.new count room result }
-    ensures taken { Checked task.now → TookAll (problem_of V.Tally B.Bound task.now bound.now room) table.old table.new count choice.now.number choice.now.row result }
+    ensures taken { TookAll (problem_of V.Tally B.Bound task.now bound.now room) table.old table.new count choice.now.number choice.now.row result }
 {
     let mut next = count;
     for number in 0..1024 {
@@ -55,7 +55,7 @@ fn take_moves<V: Tally, B: Bound<Value = V>>(
         let Some(set) = m.regress(choice.row.set) else {
             continue;
         };
-        let Estimate::Value(estimate) = bound.estimate(set) else {
+        let Some(estimate) = bound.estimate(set) else {
             continue;
         };
         next = enter(table, next, room, child(choice, number, m, set, estimate))?;

@@ -1,6 +1,5 @@
 // A run, rule by rule.
 ghost use Rattle.std.specs.Prelude.{◌≡◌, ◌≤◌, length, take};
-ghost use Rattle.tasks.specs.Tasks.{Checked};
 ghost use Rattle.theory.specs.declared.reply.End.TheVariants.{Going};
 ghost use Rattle.records.specs.Openings.{problem_of};
 ghost use Rattle.records.specs.Tables.{Grown};
@@ -32,7 +31,7 @@ pub fn run<V: Tally, B: Bound<Value = V>>(
     requires inside { Inside count end }
     ensures grown { Grown table.old table.new count room result.count }
     ensures inside { Inside result.count result.end }
-    ensures ran { Checked task.now → ∥ Sane (take count table.old) end ∥₁ → RunsTo (problem_of V.Tally B.Bound task.now bound.now room) grant table.old table.new count end result }
+    ensures ran { ∥ Sane (take count table.old) end ∥₁ → RunsTo (problem_of V.Tally B.Bound task.now bound.now room) grant table.old table.new count end result }
 {
     if let Some(reply) = tell(table, count, end) {
         return Ran { count, end, reply };
@@ -53,7 +52,7 @@ fn go_on<V: Tally, B: Bound<Value = V>>(
     requires room { room ≤ length table.old }
     ensures grown { Grown table.old table.new count room result.count }
     ensures inside { Inside result.count result.end }
-    ensures ran { Checked task.now → ∥ Sane (take count table.old) Going ∥₁ → RunsTo (problem_of V.Tally B.Bound task.now bound.now room) grant table.old table.new count Going result }
+    ensures ran { ∥ Sane (take count table.old) Going ∥₁ → RunsTo (problem_of V.Tally B.Bound task.now bound.now room) grant table.old table.new count Going result }
 {
     let mut next = count;
     let mut opened = 0;

@@ -2,9 +2,8 @@
 use Rattle.std.proofs.Common.{◌≡◌, ℕ, zero, ◌<◌, List, [], ◌∷◌, length, take, set as put, Some, None, Option, sym, refl, subst, arith, MatchOption}
 use mathlib.Core.Logic.{∥∥₁_elim}
 use native.Mathlib.Bridge.{le_prop}
-use Rattle.tasks.specs.Tasks.{Checked, goal_of}
+use Rattle.tasks.specs.Tasks.{goal_of}
 use Rattle.tasks.proofs.Places.{at_less}
-use Rattle.costs.specs.declared.estimate.Estimate.TheVariants.{Value, Never}
 use Rattle.costs.specs.declared.tally.Tally.{Ghosts}
 use Rattle.theory.specs.Problem.{Problem, Usable, Roomy}
 use Rattle.theory.specs.Queue.{kept, holding, Unusable, Makes, no_place, too_many_places, fresh}
@@ -48,26 +47,26 @@ module _ {V : Type 0} {tally : Ghosts V} (P : Problem tally) {r : Option Refusal
   pub is_roomy : r ≡ None → Roomy P
   is_roomy e = roomy_by sized e
 
-  pub is_refused : {why : Refusal} (recs : List (Record V)) (end : End) → r ≡ Some why → Checked P.task → Makes P (state_by r recs end)
-  is_refused {why} recs end e checked = subst (λ o. Makes P (state_by o recs end)) (sym e) (refused_by sized e)
+  pub is_refused : {why : Refusal} (recs : List (Record V)) (end : End) → r ≡ Some why → Makes P (state_by r recs end)
+  is_refused {why} recs end e = subst (λ o. Makes P (state_by o recs end)) (sym e) (refused_by sized e)
     where
       refused_by : {o : Option Refusal} → SizedUp tally P.task P.bound P.room o → o ≡ Some why → Makes P (kept why)
       refused_by (parts.no_place z) f = subst (λ o. Makes P (state_by o recs end)) f (no_place z)
       refused_by (parts.too_many h) f = subst (λ o. Makes P (state_by o recs end)) f (too_many_places h)
       refused_by (parts.roomy {r = o} some few j) f =
-          Makes.bad_bound (record { some = some; few = few }) (subst (λ x. MatchOption x (Usable P P.bound) (Unusable P P.bound)) f (j.tells checked P refl))
+          Makes.bad_bound (record { some = some; few = few }) (subst (λ x. MatchOption x (Usable P P.bound) (Unusable P P.bound)) f (j.tells P refl))
 
-  usable_by : {o : Option Refusal} → SizedUp tally P.task P.bound P.room o → o ≡ None → Checked P.task → Usable P P.bound
-  usable_by (parts.no_place z) e checked = impossible (cc)
-  usable_by (parts.too_many h) e checked = impossible (cc)
-  usable_by (parts.roomy some few j) e checked = subst (λ x. MatchOption x (Usable P P.bound) (Unusable P P.bound)) e (j.tells checked P refl)
+  usable_by : {o : Option Refusal} → SizedUp tally P.task P.bound P.room o → o ≡ None → Usable P P.bound
+  usable_by (parts.no_place z) e = impossible (cc)
+  usable_by (parts.too_many h) e = impossible (cc)
+  usable_by (parts.roomy some few j) e = subst (λ x. MatchOption x (Usable P P.bound) (Unusable P P.bound)) e (j.tells P refl)
 
   -- a search that can be made has the goal's record, or none
   module _ {recs : List (Record V)} (e : r ≡ None) where
-    pub is_waiting : {h : V} → P.bound.estimate (goal_of P.task) ≡ Value h → recs ≡ goal_record P h ∷ [] → Checked P.task → Makes P (state_by r recs Going)
-    is_waiting hope is checked = subst (λ o. Makes P (state_by o recs Going)) (sym e)
-        (subst (λ x. Makes P (holding x Going)) (sym is) (fresh (is_roomy e) (usable_by sized e checked) (goal_waits hope)))
+    pub is_waiting : {h : V} → P.bound.estimate (goal_of P.task) ≡ Some h → recs ≡ goal_record P h ∷ [] → Makes P (state_by r recs Going)
+    is_waiting hope is = subst (λ o. Makes P (state_by o recs Going)) (sym e)
+        (subst (λ x. Makes P (holding x Going)) (sym is) (fresh (is_roomy e) (usable_by sized e) (goal_waits hope)))
 
-    pub is_hopeless : P.bound.estimate (goal_of P.task) ≡ Never → recs ≡ [] → Checked P.task → Makes P (state_by r recs Going)
-    is_hopeless never is checked = subst (λ o. Makes P (state_by o recs Going)) (sym e)
-        (subst (λ x. Makes P (holding x Going)) (sym is) (fresh (is_roomy e) (usable_by sized e checked) (no_hope never)))
+    pub is_hopeless : P.bound.estimate (goal_of P.task) ≡ None → recs ≡ [] → Makes P (state_by r recs Going)
+    is_hopeless never is = subst (λ o. Makes P (state_by o recs Going)) (sym e)
+        (subst (λ x. Makes P (holding x Going)) (sym is) (fresh (is_roomy e) (usable_by sized e) (no_hope never)))

@@ -1,6 +1,5 @@
 -- What each call of a search gives and leaves.
 use Rattle.std.specs.Prelude.{◌≡◌, ℕ, ◌≤◌, List, ◌++◌, length, drop, Ok, Err, Result, MatchResult}
-use Rattle.tasks.specs.Tasks.{Checked}
 use Rattle.costs.specs.declared.tally.Tally.{Ghosts}
 use Rattle.theory.specs.Problem.{Problem, Lent, Honest}
 use Rattle.theory.specs.Promise.{records_of}
@@ -19,8 +18,8 @@ PastRecords before h = Untouched (length (records_of (state_of h))) before (tabl
 -- a search is made as the rules say, and what the promises suppose holds
 pub record Made {V : Type 0} {tally : Ghosts V} (P : Problem tally) (before : List (Record V)) (h : Held V) : Type 0 where
   pub task : h.task ≡ P.task
-  pub honest : Checked P.task → Honest P
-  pub makes : Checked P.task → Makes P (state_of h)
+  pub honest : Honest P
+  pub makes : Makes P (state_of h)
   pub rest : PastRecords before h
 
 -- the call has the answer that the rules give it, whatever bound the search was made with
@@ -34,7 +33,7 @@ answer_of (Err why) = refused why
 -- a run that is handed the bound b
 pub record RunAnswered {V : Type 0} (tally : Ghosts V) (b : Lent V) (grant : ℕ) (before after : Held V) (r : Result (Reply V) Refusal) : Type 0 where
   pub task : after.task ≡ before.task
-  pub answered : Checked before.task → Answered tally (run grant b) (answer_of r) before after
+  pub answered : Answered tally (run grant b) (answer_of r) before after
   pub grows : length (records_of (state_of before)) ≤ length (records_of (state_of after))
   pub rest : PastRecords (table_of before) after
 

@@ -1,6 +1,5 @@
 -- What holds of the parts of a search between calls, and what is told of a bound that is handed in.
 use Rattle.std.specs.Prelude.{◌≡◌, ℕ, ◌<◌, ◌≤◌, true, length, take, Some, None, Option, MatchOption}
-use Rattle.tasks.specs.Tasks.{Checked}
 use Rattle.tasks.specs.declared.task.Task.{Task}
 use Rattle.costs.specs.declared.tally.Tally.{Ghosts}
 use Rattle.bounds.specs.Sound.{Sound}
@@ -18,7 +17,7 @@ pub record Fit {V : Type 0} (h : Held V) : Type 0 where
   pub fits : h.room ≤ length (table_of h)
   pub whole : h.kept ≡ None → h.room ≡ length (table_of h)
   pub inside : Inside h.count h.end
-  pub traced : Checked h.task → ∥ Sane (take h.count (table_of h)) h.end ∥₁
+  pub traced : ∥ Sane (take h.count (table_of h)) h.end ∥₁
 
 -- a bound that fits the task keeps its two laws there
 abbrev pub SoundOn : {V : Type 0} → Ghosts V → Task → Lent V → Type 0
@@ -27,7 +26,7 @@ SoundOn tally task b = b.fits ≡ true → Sound tally task b.estimate b.share
 -- what is told of a bound that is handed in: that it can be used on the task, or why not
 pub record Judged {V : Type 0} (tally : Ghosts V) (task : Task) (b : Lent V) (r : Option Refusal) : Type 0 where
   pub sound : SoundOn tally task b
-  pub tells : Checked task → (P : Problem tally) → P.task ≡ task → MatchOption r (Usable P b) (Unusable P b)
+  pub tells : (P : Problem tally) → P.task ≡ task → MatchOption r (Usable P b) (Unusable P b)
 
 -- whether a search can be made over so many places, or why not: a wrong number of them is told before a fault of the bound
 pub data SizedUp {V : Type 0} (tally : Ghosts V) (task : Task) (b : Lent V) (places : ℕ) : Option Refusal → Type 0 where

@@ -1,6 +1,5 @@
 // The calls of a search over its parts, where what they need is known.
 ghost use Rattle.std.specs.Prelude.{◌≡◌, length};
-ghost use Rattle.tasks.specs.Tasks.{Checked};
 ghost use Rattle.records.specs.Openings.{lent_of, problem_of};
 ghost use Rattle.search.specs.Calls.{Made, RunAnswered, ReadAnswered};
 ghost use Rattle.search.specs.Parts.{Fit};
@@ -36,7 +35,7 @@ pub fn hold<'a, 't, V: Tally, B: Bound<Value = V>>(
         };
     }
     let room = places as u16;
-    let Estimate::Value(promise) = bound.estimate(task.goal()) else {
+    let Some(promise) = bound.estimate(task.goal()) else {
         return Held {
             task,
             table,
@@ -85,7 +84,7 @@ impl<'a, 't, V: Tally> Held<'a, 't, V> {
 
     pub fn read_out(&self, list: &mut [u16]) -> Result<u16, Refusal>
         requires { Fit self.now }
-        ensures { Checked self.now.task → ReadAnswered V.Tally self.now list.old list.new result }
+        ensures { ReadAnswered V.Tally self.now list.old list.new result }
     {
         if let Some(why) = self.kept {
             return Err(why);

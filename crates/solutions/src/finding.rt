@@ -1,9 +1,8 @@
 // The search that such a program makes: minutes, the pair table of all groups, 1,024 records and as many openings.
 ghost use Rattle.std.specs.Prelude.{◌≡◌, ◌≤◌, length};
-ghost use Rattle.tasks.specs.Tasks.{Checked};
 ghost use Rattle.tables.specs.Equation.{setting_of};
 ghost use Rattle.tables.specs.Nets.{pairs as pair_net};
-ghost use Rattle.tables.specs.Worked.{Table};
+ghost use Rattle.tables.specs.Worked.{WorkedOut};
 ghost use Rattle.solutions.specs.Solutions.{Found, Solved, minutes};
 
 use costs::{Estimate, Minutes, Tally};
@@ -31,21 +30,19 @@ pub fn find(
     Ok(search(task, list))
 }
 
-// What the search tells of a checked task.
+// What the search tells of a task.
 fn search(task: Task<'_>, list: &mut [u16]) -> Reply<Minutes>
-    requires checked { Checked task }
     requires room { length list.old ≡ 1024 }
     ensures { Solved task.entry list.old list.new result }
 {
-    let mut pairs = [Estimate::<Minutes>::Never; 4096];
+    let mut pairs: [Estimate<Minutes>; 4096] = [None; 4096];
     let _ = work_out::<Two, Minutes>(&task, 255, &mut pairs);
     search_by(task, &pairs, list)
 }
 
 // The same by the pair table of the task.
 fn search_by(task: Task<'_>, pairs: &[Estimate<Minutes>], list: &mut [u16]) -> Reply<Minutes>
-    requires checked { Checked task }
-    requires worked { Table minutes (pair_net minutes (setting_of task 255)) pairs.now }
+    requires worked { WorkedOut minutes (pair_net minutes (setting_of task 255)) pairs.now }
     requires room { length list.old ≡ 1024 }
     ensures { Solved task.entry list.old list.new result }
 {

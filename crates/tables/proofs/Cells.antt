@@ -6,8 +6,7 @@ use Rattle.std.specs.Option.{option_map}
 use Rattle.facts.proofs.Tests.{from_true, to_true}
 use Rattle.costs.specs.Choices.{Smaller}
 use Rattle.costs.specs.Estimates.{not_above}
-use Rattle.costs.specs.declared.estimate.Estimate.{Estimate}
-use Rattle.costs.specs.declared.estimate.Estimate.TheVariants.{Value, Never}
+use Rattle.costs.specs.Estimates.{Estimate}
 use Rattle.costs.specs.declared.tally.Tally.{Ghosts}
 use Rattle.bounds.specs.Sound.{NotAbove}
 use Rattle.tables.specs.Equation.{Setting}
@@ -55,8 +54,8 @@ module _ {V K : Type 0} {b : Setting} (n : Net V b K) where
     lowered {tally} laws table new at offer q fits l =
         subst (λ t. Lowers tally (λ k. Present n k × (k ≡ at)) offer (place_of n table) (place_of n t)) (sym l.wrote)
         (lowers_at laws at l.to (q, refl) (λ k h. h.1) (λ k. place_or_not k at q)
-        (written Never l.to table at q fits) (λ k ne. others Never l.to table k at q ne)
-        (subst (λ x. Smaller (not_above tally.at_most) x offer l.to) (sym (inside Never table at q)) l.smaller))
+        (written None l.to table at q fits) (λ k ne. others None l.to table k at q ne)
+        (subst (λ x. Smaller (not_above tally.at_most) x offer l.to) (sym (inside None table at q)) l.smaller))
 
 -- what stands behind a front does not change with it
 pub same_past : {X : Type 0} (out : X) (new old rest : List X) → length new ≡ length old → (k : ℕ) → length old ≤ k → get_or (new ++ rest) k out ≡ get_or (old ++ rest) k out
@@ -70,32 +69,32 @@ same_past out (x ∷ new) (y ∷ old) rest e (suc k) l = same_past out new old r
 pub record Chosen {V : Type 0} (tally : Ghosts V) (done : List Bool) (table : List (Estimate V)) (i u : ℕ) (v : V) : Type 0 where
   pub inside : u < length table
   pub undone : get_or done u false ≡ false
-  pub value : get_or table u Never ≡ Value v
-  pub least : (w : ℕ) → w < i → get_or done w false ≡ false → NotAbove tally (Value v) (get_or table w Never)
+  pub value : get_or table u None ≡ Some v
+  pub least : (w : ℕ) → w < i → get_or done w false ≡ false → NotAbove tally (Some v) (get_or table w None)
 
 abbrev pub Best : {V : Type 0} → Ghosts V → List Bool → List (Estimate V) → ℕ → Option (ℕ × V) → Type 0
-Best tally done table i None = (w : ℕ) → w < i → get_or done w false ≡ false → get_or table w Never ≡ Never
+Best tally done table i None = (w : ℕ) → w < i → get_or done w false ≡ false → get_or table w None ≡ None
 Best tally done table i (Some k) = Chosen tally done table i k.0 k.1
 
 module _ {V : Type 0} {tally : Ghosts V} (laws : LawsOf tally) (done : List Bool) (table : List (Estimate V)) (i : ℕ) where
-  best_passes : (best : Option (ℕ × V)) → Best tally done table i best → (get_or done i false ≡ false → NotAbove tally (least_of best) (get_or table i Never)) → Best tally done table (i + 1) best
-  best_passes None low more = below_more _ i low (λ d. order.antisymmetric laws (get_or table i Never) Never (order.top laws (get_or table i Never)) (more d))
+  best_passes : (best : Option (ℕ × V)) → Best tally done table i best → (get_or done i false ≡ false → NotAbove tally (least_of best) (get_or table i None)) → Best tally done table (i + 1) best
+  best_passes None low more = below_more _ i low (λ d. order.antisymmetric laws (get_or table i None) None (order.top laws (get_or table i None)) (more d))
   best_passes (Some k) c more = record { inside = c.inside; undone = c.undone; value = c.value; least = below_more _ i c.least more }
 
-  best_changes : (best : Option (ℕ × V)) → Best tally done table i best → get_or done i false ≡ false → i < length table → (v : V) → get_or table i Never ≡ Value v
-      → NotAbove tally (get_or table i Never) (least_of best) → Best tally done table (i + 1) (Some (i, v))
+  best_changes : (best : Option (ℕ × V)) → Best tally done table i best → get_or done i false ≡ false → i < length table → (v : V) → get_or table i None ≡ Some v
+      → NotAbove tally (get_or table i None) (least_of best) → Best tally done table (i + 1) (Some (i, v))
   best_changes best b d l v is less = record {
     inside = l;
     undone = d;
     value = is;
-    least = below_more _ i (λ w h e. subst (λ x. NotAbove tally x (get_or table w Never)) is (order.transitive laws (get_or table i Never) (least_of best) (get_or table w Never) less (low best b w h e))) (λ e. order.same laws (sym is));
+    least = below_more _ i (λ w h e. subst (λ x. NotAbove tally x (get_or table w None)) is (order.transitive laws (get_or table i None) (least_of best) (get_or table w None) less (low best b w h e))) (λ e. order.same laws (sym is));
   }
     where
-      low : (best : Option (ℕ × V)) → Best tally done table i best → (w : ℕ) → w < i → get_or done w false ≡ false → NotAbove tally (least_of best) (get_or table w Never)
+      low : (best : Option (ℕ × V)) → Best tally done table i best → (w : ℕ) → w < i → get_or done w false ≡ false → NotAbove tally (least_of best) (get_or table w None)
       low None b w h e = order.same laws (sym (b w h e))
       low (Some k) c w h e = c.least w h e
 
-  pub best_more : (best to : Option (ℕ × V)) → Best tally done table i best → get_or done i false ≡ false → i < length table → Lesser tally best i (get_or table i Never) to → Best tally done table (i + 1) to
+  pub best_more : (best to : Option (ℕ × V)) → Best tally done table i best → get_or done i false ≡ false → i < length table → Lesser tally best i (get_or table i None) to → Best tally done table (i + 1) to
   best_more best to b d l (inl s) = subst (Best tally done table (i + 1)) (sym s.0) (best_passes best b (λ e. s.1))
   best_more best to b d l (inr s) = subst (Best tally done table (i + 1)) (sym s.2) (best_changes best b d l s.0 s.1 s.3)
 
@@ -108,7 +107,7 @@ best_picks tally done table i end None low = λ v l d. low v (omega arith) d
 best_picks tally done table i end (Some k) c = record {
   inside = c.inside;
   undone = c.undone;
-  least = λ v l d. subst (λ x. NotAbove tally x (get_or table v Never)) (sym c.value) (c.least v (omega arith) d);
+  least = λ v l d. subst (λ x. NotAbove tally x (get_or table v None)) (sym c.value) (c.least v (omega arith) d);
 }
 
 -- how many places are open

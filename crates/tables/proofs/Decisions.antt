@@ -6,7 +6,7 @@ use Rattle.facts.proofs.Tests.{from_true, to_true, not_both, same_tests, and_lef
 use Rattle.tasks.specs.Places.{At, here, there}
 use Rattle.tasks.specs.declared.moves.Move.{Move}
 use Rattle.costs.specs.Estimates.{not_above}
-use Rattle.costs.specs.declared.estimate.Estimate.{Estimate}
+use Rattle.costs.specs.Estimates.{Estimate}
 use Rattle.costs.specs.declared.tally.Tally.{Ghosts}
 use Rattle.bounds.specs.Sound.{NotAbove}
 use Rattle.tables.specs.Nets.{every}

@@ -1,13 +1,12 @@
 -- The rules as they are tested, and what follows where they are kept.
-use Rattle.std.proofs.Common.{◌≡◌, ◌↔◌, IsTrue, ℕ, Bool, List, Decides, sym, ap, subst}
+use Rattle.std.proofs.Common.{◌≡◌, ◌↔◌, IsTrue, ℕ, Bool, List, Decides, sym, ap, subst, Some}
 use Rattle.std.specs.Cmp.Lexicographic.{pointwise, pointwise_decides}
 use Rattle.facts.specs.declared.sets.FactSet.{FactSet}
 use Rattle.tasks.specs.Places.{At}
 use Rattle.tasks.specs.Tasks.{facts_of, start_of, moves_of}
 use Rattle.tasks.specs.declared.moves.Move.{Move}
 use Rattle.tasks.specs.declared.task.Task.{Task}
-use Rattle.costs.specs.declared.estimate.Estimate.{Estimate}
-use Rattle.costs.specs.declared.estimate.Estimate.TheVariants.{Value}
+use Rattle.costs.specs.Estimates.{Estimate}
 use Rattle.costs.specs.declared.tally.Tally.{Ghosts}
 use Rattle.bounds.specs.Sound.{NotAbove, Sound}
 use Rattle.tables.specs.Equation.{Setting}
@@ -44,9 +43,9 @@ task_told b t r is = subst (λ x. IsTrue x ↔ SameTask b t) (sym is) (task_tell
 module _ {V K : Type 0} {tally : Ghosts V} {b : Setting} (n : Net V b K) (laws : LawsOf tally) (tops : Tops tally n) (val : K → Estimate V) where
   -- all three tests, from those of the moves and of what more is asked
   pub keeps_tells : {M : Move → Type 0} {F : Type 0} → ((m : Move) → Decides (n.keeps_move val m) (M m)) → Decides (n.keeps_further val) F
-      → Decides (keeps tally n val) (((k : K) → In n b.start k → NotAbove tally (val k) (Value tally.nil)) × (((j : ℕ) (m : Move) → At b.moves j m → M m) × F))
+      → Decides (keeps tally n val) (((k : K) → In n b.start k → NotAbove tally (val k) (Some tally.nil)) × (((j : ℕ) (m : Move) → At b.moves j m → M m) × F))
   keeps_tells each more =
-      decides_and _ _ (top_tells laws (n.est val b.start) (Value tally.nil) (tops val b.start)) (decides_and _ _ (decides_all (n.keeps_move val) each b.moves) more)
+      decides_and _ _ (top_tells laws (n.est val b.start) (Some tally.nil) (tops val b.start)) (decides_and _ _ (decides_all (n.keeps_move val) each b.moves) more)
 
   -- what the bound's test tells
   pub fits_tells : IsTrue (keeps tally n val) ↔ Rules tally n val → (t : Task) → Decides (fits tally n val t) (Fits tally n val t)

@@ -1,5 +1,5 @@
 -- Single facts as the places of a table.
-use Rattle.std.proofs.Common.{◌≡◌, ◌↔◌, IsTrue, ℕ, ◌+◌, ◌<◌, ◌≤◌, Bool, true, false, not, ◌&&◌, ◌||◌, T, ltb, ◌⊎◌, [], ◌∷◌, Option, sym, refl, subst, inl, inr, ⊎_elim, arith}
+use Rattle.std.proofs.Common.{◌≡◌, ◌↔◌, IsTrue, ℕ, ◌+◌, ◌<◌, ◌≤◌, Bool, true, false, not, ◌&&◌, ◌||◌, T, ltb, ◌⊎◌, [], ◌∷◌, Option, sym, refl, subst, inl, inr, ⊎_elim, arith, Some}
 use Rattle.std.proofs.lemmas.Bool.{cases_eq, cases_lt, lt-ltb, ltb-true}
 use Rattle.facts.specs.Sets.{has}
 use Rattle.facts.specs.declared.sets.FactSet.{FactSet}
@@ -10,8 +10,7 @@ use Rattle.tasks.specs.Places.{At}
 use Rattle.tasks.specs.declared.moves.Move.{Move}
 use Rattle.tasks.proofs.Places.{at_same}
 use Rattle.tasks.proofs.Bearing.{regresses_swaps, swap_added, swap_cases}
-use Rattle.costs.specs.declared.estimate.Estimate.{Estimate}
-use Rattle.costs.specs.declared.estimate.Estimate.TheVariants.{Value}
+use Rattle.costs.specs.Estimates.{Estimate}
 use Rattle.costs.specs.declared.tally.Tally.{Ghosts}
 use Rattle.bounds.specs.Sound.{NotAbove}
 use Rattle.tables.specs.Equation.{Setting, offer_of}
@@ -102,9 +101,9 @@ module _ {V : Type 0} {tally : Ghosts V} (laws : LawsOf tally) (b : Setting) whe
     abbrev MoveTested : Move → Type 0
     MoveTested m = (p : ℕ) → T (heads m p) → NotAbove tally (val p) (offer_of tally b m (estimate_by_singles tally val m.needs))
 
-    rules_from : ((p : ℕ) → T (has b.start p) → NotAbove tally (val p) (Value tally.nil)) → ((j : ℕ) (m : Move) → At b.moves j m → MoveTested m) → Rules tally (singles tally b) val
+    rules_from : ((p : ℕ) → T (has b.start p) → NotAbove tally (val p) (Some tally.nil)) → ((j : ℕ) (m : Move) → At b.moves j m → MoveTested m) → Rules tally (singles tally b) val
     rules_from start moves = record {
-      start = λ p h. order.antisymmetric laws (val p) (Value tally.nil) (start p h) (order.least laws (val p));
+      start = λ p h. order.antisymmetric laws (val p) (Some tally.nil) (start p h) (order.least laws (val p));
       moves = λ j m p s t at only r. let w = single_needs m s t p only r in
           subst (λ u. NotAbove tally (val p) (offer_of tally b m (estimate_by_singles tally val u))) (sym w.1) (moves j m at p w.0);
       further = tt;

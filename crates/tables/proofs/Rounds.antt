@@ -4,8 +4,7 @@ use Rattle.std.proofs.Math.ListN.{get_or-append}
 use Rattle.std.proofs.lemmas.Bool.{cases_Bool, cond-true, cond-false}
 use Rattle.facts.proofs.Tests.{from_true, to_true, not_both}
 use Rattle.tasks.proofs.Places.{at_less}
-use Rattle.costs.specs.declared.estimate.Estimate.{Estimate}
-use Rattle.costs.specs.declared.estimate.Estimate.TheVariants.{Value, Never}
+use Rattle.costs.specs.Estimates.{Estimate}
 use Rattle.costs.specs.declared.tally.Tally.{Ghosts}
 use Rattle.bounds.specs.Sound.{NotAbove}
 use Rattle.tables.specs.Equation.{Setting}
@@ -13,7 +12,7 @@ use Rattle.tables.specs.Laid.{Laid, Known}
 use Rattle.tables.specs.Nets.{Net, Present, read, place_of}
 use Rattle.tables.specs.Rules.{Rules}
 use Rattle.tables.specs.Settling.{Start, Sure, unreached, begun, Settling, Turned, Before, Begun, Cheapest, touches}
-use Rattle.tables.specs.Worked.{Table}
+use Rattle.tables.specs.Worked.{WorkedOut}
 use Rattle.tables.proofs.Cells.{inside, outside, place_or_not, others, written, none_done}
 use Rattle.tables.proofs.Engine.{round_first, round_begins, round_ends, ends}
 use Rattle.tables.proofs.Order as order
@@ -33,20 +32,20 @@ module _ {V K : Type 0} {tally : Ghosts V} {b : Setting} (n : Net V b K) (laws :
   Round settled old new = Turned tally n (λ t. touches (n.inside t) settled) (Before 0) (Before (length b.moves)) (value old) (value new)
 
   module _ (table : List (Estimate V)) (wrote : Begun tally n table) where
-    wrote_at : (k : K) → Present n k → (e : Estimate V) → ((n.inside b.start k ≡ true) × (e ≡ Value tally.nil)) ⊎ ((n.inside b.start k ≡ false) × (e ≡ Never)) → value table k ≡ e
+    wrote_at : (k : K) → Present n k → (e : Estimate V) → ((n.inside b.start k ≡ true) × (e ≡ Some tally.nil)) ⊎ ((n.inside b.start k ≡ false) × (e ≡ None)) → value table k ≡ e
     wrote_at k p e which =
         let start : K → Bool = λ i. n.inside b.start i in
-        inside n Never table k p ∙ wrote (n.number k) (laid.numbers.below k p)
+        inside n None table k p ∙ wrote (n.number k) (laid.numbers.below k p)
         ∙ ⊎_elim (λ w. cond-true _ _ _ (ap start (laid.numbers.placed k p) ∙ w.0) ∙ sym w.1) (λ w. cond-false _ _ _ (ap start (laid.numbers.placed k p) ∙ w.0) ∙ sym w.1) which
 
     -- nil in the start, never elsewhere
-    begin_cases : (k : K) → Start n k ⊎ (value table k ≡ Never)
+    begin_cases : (k : K) → Start n k ⊎ (value table k ≡ None)
     begin_cases k = ⊎_elim
-        (λ p. ⊎_elim (λ e. inl (p, from_true e)) (λ e. inr (wrote_at k p Never (inr (e, refl)))) (cases_Bool (n.inside b.start k)))
-        (λ out. inr (outside n Never table k out)) (present_or_not n k)
+        (λ p. ⊎_elim (λ e. inl (p, from_true e)) (λ e. inr (wrote_at k p None (inr (e, refl)))) (cases_Bool (n.inside b.start k)))
+        (λ out. inr (outside n None table k out)) (present_or_not n k)
 
-    nil_at : (k : K) → Start n k → value table k ≡ Value tally.nil
-    nil_at k w = wrote_at k w.0 (Value tally.nil) (inl (to_true w.1, refl))
+    nil_at : (k : K) → Start n k → value table k ≡ Some tally.nil
+    nil_at k w = wrote_at k w.0 (Some tally.nil) (inl (to_true w.1, refl))
 
     sure_first : Sure tally n (value table)
     sure_first = record {
@@ -55,7 +54,7 @@ module _ {V K : Type 0} {tally : Ghosts V} {b : Setting} (n : Net V b K) (laws :
           (λ e. subst (λ x. NotAbove tally (h k) x) (sym e) (order.top laws (h k))) (begin_cases k);
       backed = λ y. ⊎_elim (λ w. begun w) (λ e. unreached e) (begin_cases y);
       begun = nil_at;
-      absent = λ k out. outside n Never table k out;
+      absent = λ k out. outside n None table k out;
     }
 
     none_settled : (many : ℕ) (k : K) → Done (replicate many false) k ≡ false
@@ -65,8 +64,8 @@ module _ {V K : Type 0} {tally : Ghosts V} {b : Setting} (n : Net V b K) (laws :
     pub first_round : (many : ℕ) (new : List (Estimate V)) → Round None table new → Settling tally n (value new) (Done (replicate many false))
     first_round many new r =
         let done = Done (replicate many false) in
-        round_ends n laws laid.tops (λ t. touches (n.inside t) None) done (Value tally.nil) (Before (length b.moves)) (value new) (λ j m y t st. at_less st.at)
-        (r.runs done (Value tally.nil)
+        round_ends n laws laid.tops (λ t. touches (n.inside t) None) done (Some tally.nil) (Before (length b.moves)) (value new) (λ j m y t st. at_less st.at)
+        (r.runs done (Some tally.nil)
         (round_first n laws laid.tops (λ t. touches (n.inside t) None) done (Before 0) (value table) sure_first (λ t. tt) (none_settled many) (λ j y l. omega arith)))
 
   -- a round, in which the place of number u is settled
@@ -86,10 +85,10 @@ module _ {V K : Type 0} {tally : Ghosts V} {b : Setting} (n : Net V b K) (laws :
     least_at : (v : K) → Done done v ≡ false → NotAbove tally (value old here) (value old v)
     least_at v d =
         ⊎_elim
-        (λ p. subst (λ x. NotAbove tally x (value old v)) (sym (inside n Never old here here_present ∙ ap (λ i. get_or old i Never) is_u))
-        (subst (λ x. NotAbove tally (get_or old u Never) x) (sym (inside n Never old v p))
+        (λ p. subst (λ x. NotAbove tally x (value old v)) (sym (inside n None old here here_present ∙ ap (λ i. get_or old i None) is_u))
+        (subst (λ x. NotAbove tally (get_or old u None) x) (sym (inside n None old v p))
         (picked.least (n.number v) (omega (arith, laid.numbers.below v p, whole)) (sym (inside n false done v p) ∙ d))))
-        (λ out. subst (λ x. NotAbove tally (value old here) x) (sym (outside n Never old v out)) (order.top laws (value old here)))
+        (λ out. subst (λ x. NotAbove tally (value old here) x) (sym (outside n None old v out)) (order.top laws (value old here)))
         (present_or_not n v)
 
     set_here : set done u true ≡ set done (n.number here) true
@@ -113,17 +112,17 @@ module _ {V K : Type 0} {tally : Ghosts V} {b : Setting} (n : Net V b K) (laws :
 
   -- when no open place has a value
   pub last_round : (table : List (Estimate V)) (done : List Bool) → length table ≡ n.count → Settling tally n (value table) (Done done)
-      → ((v : ℕ) → v < length table → get_or done v false ≡ false → get_or table v Never ≡ Never) → Known b → Table tally n table
+      → ((v : ℕ) → v < length table → get_or done v false ≡ false → get_or table v None ≡ None) → Known b → WorkedOut tally n table
   last_round table done whole s out known =
-      let never : (k : K) → Done done k ≡ false → value table k ≡ Never =
-      λ k d. ⊎_elim (λ p. inside n Never table k p ∙ out (n.number k) (omega (arith, laid.numbers.below k p, whole)) (sym (inside n false done k p) ∙ d)) (λ off. outside n Never table k off) (present_or_not n k) in
+      let never : (k : K) → Done done k ≡ false → value table k ≡ None =
+      λ k d. ⊎_elim (λ p. inside n None table k p ∙ out (n.number k) (omega (arith, laid.numbers.below k p, whole)) (sym (inside n false done k p) ∙ d)) (λ off. outside n None table k off) (present_or_not n k) in
       let closed = ends n laws laid.tops (value table) (Done done) s never in
       let further = laid.further known (value table) s.sure closed in
       let own_is = laid.own (value table) further in
       record {
         est = n.est (value table);
         greatest = greatest n laws laid.tops laid.shape known (value table) s.sure closed own_is;
-        holds = λ k s p names. sym (own_is k s names ∙ inside n Never table k p);
+        holds = λ k s p names. sym (own_is k s names ∙ inside n None table k p);
         rules = record {
           start = nil_start n laws laid.tops laid.shape known (value table) s.sure closed;
           moves = closed_all n laws laid.tops laid.shape known (value table) s.sure closed;
@@ -133,13 +132,13 @@ module _ {V K : Type 0} {tally : Ghosts V} {b : Setting} (n : Net V b K) (laws :
       }
 
   -- a table with more places after those of the layout
-  pub longer : (table rest : List (Estimate V)) → length table ≡ n.count → Table tally n table → Table tally n (table ++ rest)
+  pub longer : (table rest : List (Estimate V)) → length table ≡ n.count → WorkedOut tally n table → WorkedOut tally n (table ++ rest)
   longer table rest whole t =
-      let at : (k : K) → Present n k → get_or (table ++ rest) (n.number k) Never ≡ get_or table (n.number k) Never =
-      λ k p. get_or-append table rest Never (n.number k) (omega (arith, laid.numbers.below k p, whole)) in
+      let at : (k : K) → Present n k → get_or (table ++ rest) (n.number k) None ≡ get_or table (n.number k) None =
+      λ k p. get_or-append table rest None (n.number k) (omega (arith, laid.numbers.below k p, whole)) in
       let same_at : (k : K) → value (table ++ rest) k ≡ value table k = λ k. ⊎_elim
-      (λ p. inside n Never (table ++ rest) k p ∙ at k p ∙ sym (inside n Never table k p))
-      (λ off. outside n Never (table ++ rest) k off ∙ sym (outside n Never table k off)) (present_or_not n k) in
+      (λ p. inside n None (table ++ rest) k p ∙ at k p ∙ sym (inside n None table k p))
+      (λ off. outside n None (table ++ rest) k off ∙ sym (outside n None table k off)) (present_or_not n k) in
       let same : value (table ++ rest) ≡ value table = λ i k. same_at k i in
       record {
         est = t.est;

@@ -11,8 +11,7 @@ use Rattle.tasks.specs.Places.{At}
 use Rattle.tasks.specs.declared.moves.Move.{Move}
 use Rattle.tasks.proofs.Places.{at_same}
 use Rattle.tasks.proofs.Bearing.{regresses_swaps, regresses_same, swap_added, swap_kept, swapped}
-use Rattle.costs.specs.declared.estimate.Estimate.{Estimate}
-use Rattle.costs.specs.declared.estimate.Estimate.TheVariants.{Value, Never}
+use Rattle.costs.specs.Estimates.{Estimate}
 use Rattle.costs.specs.declared.tally.Tally.{Ghosts}
 use Rattle.bounds.specs.Sound.{NotAbove}
 use Rattle.tables.specs.Equation.{Setting, offer_of}
@@ -233,14 +232,14 @@ module _ {V : Type 0} {tally : Ghosts V} (laws : LawsOf tally) (b : Setting) whe
     }
 
     -- a move whose needs are never offers nothing
-    pub with_never : (val : Two → Estimate V) → estimate_by_pairs tally val m.needs ≡ Never → Turned tally (pairs tally b) fresh (Before i) (Before (i + 1)) val val
+    pub with_never : (val : Two → Estimate V) → estimate_by_pairs tally val m.needs ≡ None → Turned tally (pairs tally b) fresh (Before i) (Before (i + 1)) val val
     with_never val never = record {
       runs = λ done floor r. seen_more (pairs tally b) laws pairs_tops fresh val done floor (Before i) (Before (i + 1))
           (λ j n y t st f l. ⊎_elim
           (λ e. let w = own_step j n y t e st in
           let est = estimate_by_pairs tally val t in
-          let up : NotAbove tally Never est = subst (λ x. NotAbove tally x est) never (est_grows (pairs tally b) laws pairs_tops pairs_shape val m.needs t (swap_added (regresses_swaps w.1))) in
-          inr (via_never (pairs tally b) laws pairs_tops n val t (val y) (order.antisymmetric laws est Never (order.top laws est) up)))
+          let up : NotAbove tally None est = subst (λ x. NotAbove tally x est) never (est_grows (pairs tally b) laws pairs_tops pairs_shape val m.needs t (swap_added (regresses_swaps w.1))) in
+          inr (via_never (pairs tally b) laws pairs_tops n val t (val y) (order.antisymmetric laws est None (order.top laws est) up)))
           (λ ne. inl (omega arith)) (cases_eq j i)) r;
     }
 
@@ -287,7 +286,7 @@ module _ {V : Type 0} {tally : Ghosts V} (laws : LawsOf tally) (b : Setting) whe
     abbrev Le : Estimate V → Estimate V → Type 0
     Le e f = NotAbove tally e f
 
-    nil_at : (k : Two) → T (has b.start k.0) → T (has b.start k.1) → val k ≡ Value tally.nil
+    nil_at : (k : Two) → T (has b.start k.0) → T (has b.start k.1) → val k ≡ Some tally.nil
     nil_at k x y = nil_start (pairs tally b) laws pairs_tops pairs_shape known val sure closed k (in_both b.start k x y)
 
     every_step : (j : ℕ) (m : Move) (k : Two) (s t : FactSet) → At b.moves j m → Both s k → Regresses m s t → Le (val k) (via tally (pairs tally b) m val t)
@@ -373,8 +372,8 @@ module _ {V : Type 0} {tally : Ghosts V} (laws : LawsOf tally) (b : Setting) whe
     rows_tell = decides_every _ (λ p. decides_every _ (λ q. decides_and _ _ (decides_test _) (decides_test _)) b.facts) b.facts
 
     -- a place that the table has not is never
-    module _ (out : (k : Two) → (Present (pairs tally b) k → ⊥) → val k ≡ Never) where
-      off : (k : Two) → (b.facts ≤ k.0) ⊎ (b.facts ≤ k.1) → val k ≡ Never
+    module _ (out : (k : Two) → (Present (pairs tally b) k → ⊥) → val k ≡ None) where
+      off : (k : Two) → (b.facts ≤ k.0) ⊎ (b.facts ≤ k.1) → val k ≡ None
       off k o = out k (λ p. let i = in_table b.facts k p in ⊎_elim (λ l. omega (arith, i.0)) (λ l. omega (arith, i.1)) o)
 
       turned_from : RowsTested → (p q : ℕ) → val (p, q) ≡ val (q, p)
@@ -402,15 +401,15 @@ module _ {V : Type 0} {tally : Ghosts V} (laws : LawsOf tally) (b : Setting) whe
           (subst (λ x. NotAbove tally x (offer m (besides_estimate tally val m r))) (agree.turned r p)
           (tested.1 r l (λ o. ⊎_elim whole (λ x. not_both x unmade) (or_cases (has m.breaks r) (has m.makes r) o)) p head)))
           (λ l. let stays = swap_kept (regresses_swaps g) r (both_second both) (λ x. not_both x unmade) in
-          let never : estimate_by_pairs tally val t ≡ Never = order.antisymmetric laws (estimate_by_pairs tally val t) Never (order.top laws (estimate_by_pairs tally val t))
+          let never : estimate_by_pairs tally val t ≡ None = order.antisymmetric laws (estimate_by_pairs tally val t) None (order.top laws (estimate_by_pairs tally val t))
           (subst (λ x. NotAbove tally x (estimate_by_pairs tally val t)) (off (r, r) (inl l)) ((pairs_top laws val t).upper (r, r) (stays, stays))) in
           via_never (pairs tally b) laws (pairs_tops laws b) m val t (val (p, r)) never)
           (cases_lt r b.facts))
           (cases_Bool (has m.makes r))
 
-      rules_from : ((k : Two) → T (both (has b.start) k) → NotAbove tally (val k) (Value tally.nil)) → ((j : ℕ) (m : Move) → At b.moves j m → MoveTested m) → RowsTested → Rules tally (pairs tally b) val
+      rules_from : ((k : Two) → T (both (has b.start) k) → NotAbove tally (val k) (Some tally.nil)) → ((j : ℕ) (m : Move) → At b.moves j m → MoveTested m) → RowsTested → Rules tally (pairs tally b) val
       rules_from start moves rows = let agree = agree_from rows in record {
-        start = λ k i. order.antisymmetric laws (val k) (Value tally.nil) (start k i) (order.least laws (val k));
+        start = λ k i. order.antisymmetric laws (val k) (Some tally.nil) (start k i) (order.least laws (val k));
         moves = λ j m k s t at names g. ⊎_elim
             (λ head. first_from agree m s t k.0 k.1 (moves j m at) names g head)
             (λ head. subst (λ x. NotAbove tally x (via tally (pairs tally b) m val t)) (agree.turned k.1 k.0) (first_from agree m s t k.1 k.0 (moves j m at) (both_turned k.0 k.1 names) g head))
@@ -433,7 +432,7 @@ module _ {V : Type 0} {tally : Ghosts V} (laws : LawsOf tally) (b : Setting) whe
       rows_from : RowsTested
       rows_from p l q k = (rules.further.single p q, order.same laws (rules.further.turned p q))
 
-    pub pairs_tell : ((k : Two) → (Present (pairs tally b) k → ⊥) → val k ≡ Never) → IsTrue (keeps tally (pairs tally b) val) ↔ Rules tally (pairs tally b) val
+    pub pairs_tell : ((k : Two) → (Present (pairs tally b) k → ⊥) → val k ≡ None) → IsTrue (keeps tally (pairs tally b) val) ↔ Rules tally (pairs tally b) val
     pairs_tell out = decides_like (λ w. rules_from out w.0 w.1.0 w.1.1)
         (λ rules. ((λ k i. order.same laws (rules.start k i)), (move_from rules, rows_from rules)))
         (keeps_tells (pairs tally b) laws (pairs_tops laws b) val move_tells rows_tell)

@@ -1,11 +1,10 @@
 -- What holds of the places of a table, whatever is in it.
-use Rattle.std.specs.Prelude.{◌≡◌, ℕ, ◌<◌, ◌≤◌, ◌↔◌, IsTrue, T}
+use Rattle.std.specs.Prelude.{◌≡◌, ℕ, ◌<◌, ◌≤◌, ◌↔◌, IsTrue, T, None}
 use Rattle.facts.specs.Sets.{has, Within}
 use Rattle.facts.specs.declared.sets.FactSet.{FactSet}
 use Rattle.tasks.specs.Places.{At}
 use Rattle.tasks.specs.declared.moves.Move.{Move}
-use Rattle.costs.specs.declared.estimate.Estimate.{Estimate}
-use Rattle.costs.specs.declared.estimate.Estimate.TheVariants.{Never}
+use Rattle.costs.specs.Estimates.{Estimate}
 use Rattle.costs.specs.declared.tally.Tally.{Ghosts}
 use Rattle.bounds.specs.Sound.{NotAbove}
 use Rattle.tables.specs.Equation.{Setting, Few}
@@ -37,8 +36,9 @@ pub record Numbered {V K : Type 0} {b : Setting} (n : Net V b K) : Type 0 where
 abbrev pub Tops : {V K : Type 0} {b : Setting} (tally : Ghosts V) → Net V b K → Type 0
 Tops {V} {K} tally n = (val : K → Estimate V) (t : FactSet) → Top tally (In n t) val (n.est val t)
 
--- the start and what moves make are facts
+-- there are few facts, and the start and what moves make are some of them
 pub record Known (b : Setting) : Type 0 where
+  pub few : b.facts ≤ 64
   pub start : (f : ℕ) → T (has b.start f) → f < b.facts
   pub makes : (j : ℕ) (m : Move) → At b.moves j m → (f : ℕ) → T (has m.makes f) → f < b.facts
 
@@ -54,4 +54,4 @@ pub record Laid {V K : Type 0} {b : Setting} (tally : Ghosts V) (n : Net V b K) 
   pub further : Known b → (val : K → Estimate V) → Sure tally n val → Closed tally n val → n.Further val
   pub own : (val : K → Estimate V) → n.Further val → (k : K) (s : FactSet) → n.Names k s → n.est val s ≡ val k
   -- the tests tell whether the rules are kept, where missing places are never
-  pub tells : (val : K → Estimate V) → ((k : K) → (Present n k → ⊥) → val k ≡ Never) → IsTrue (keeps tally n val) ↔ Rules tally n val
+  pub tells : (val : K → Estimate V) → ((k : K) → (Present n k → ⊥) → val k ≡ None) → IsTrue (keeps tally n val) ↔ Rules tally n val

@@ -1,11 +1,10 @@
 -- The places of a table: to which sets they belong, and what is read from them and tested of them.
-use Rattle.std.specs.Prelude.{◌≡◌, ℕ, zero, suc, ◌+◌, ◌*◌, ◌/◌, ◌%◌, Bool, true, not, cond, ◌&&◌, ◌||◌, T, List, ◌==◌, nat_lt, slice_index_or}
+use Rattle.std.specs.Prelude.{◌≡◌, ℕ, zero, suc, ◌+◌, ◌*◌, ◌/◌, ◌%◌, Bool, true, not, cond, ◌&&◌, ◌||◌, T, List, ◌==◌, nat_lt, slice_index_or, None}
 use Rattle.facts.specs.Sets.{has}
 use Rattle.facts.specs.declared.sets.FactSet.{FactSet}
 use Rattle.tasks.specs.declared.moves.Move.{Move}
 use Rattle.costs.specs.Estimates.{not_above}
-use Rattle.costs.specs.declared.estimate.Estimate.{Estimate}
-use Rattle.costs.specs.declared.estimate.Estimate.TheVariants.{Never}
+use Rattle.costs.specs.Estimates.{Estimate}
 use Rattle.costs.specs.declared.tally.Tally.{Ghosts}
 use Rattle.bounds.specs.Sound.{NotAbove}
 use Rattle.tables.specs.Equation.{Setting, offer_of}
@@ -45,7 +44,7 @@ read n out list k = cond (n.present k) (slice_index_or list (n.number k) out) ou
 
 -- a missing place counts as never
 abbrev pub place_of : {V K : Type 0} {b : Setting} → Net V b K → List (Estimate V) → K → Estimate V
-place_of n table = read n Never table
+place_of n table = read n None table
 
 -- the estimate of a set by a table
 abbrev pub estimate_by : {V K : Type 0} {b : Setting} → Net V b K → List (Estimate V) → FactSet → Estimate V

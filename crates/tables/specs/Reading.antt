@@ -1,12 +1,11 @@
 -- The sets of one and of two facts, and the highest of some places.
-use Rattle.std.specs.Prelude.{◌≡◌, ℕ, zero, suc, Bool, cond, ◌||◌, ◌⊎◌, List, [], ◌∷◌, ◌==◌}
+use Rattle.std.specs.Prelude.{◌≡◌, ℕ, zero, suc, Bool, cond, ◌||◌, ◌⊎◌, List, [], ◌∷◌, ◌==◌, Some}
 use Rattle.facts.specs.Sets.{has}
 use Rattle.facts.specs.declared.sets.FactSet.{FactSet}
 use Rattle.tasks.specs.declared.moves.Move.{Move}
 use Rattle.costs.specs.Choices.{larger_of}
 use Rattle.costs.specs.Estimates.{not_above}
-use Rattle.costs.specs.declared.estimate.Estimate.{Estimate}
-use Rattle.costs.specs.declared.estimate.Estimate.TheVariants.{Value}
+use Rattle.costs.specs.Estimates.{Estimate}
 use Rattle.costs.specs.declared.tally.Tally.{Ghosts}
 use Rattle.bounds.specs.Sound.{NotAbove}
 use Rattle.tables.specs.Equation.{charge_if_counted}
@@ -26,11 +25,11 @@ pub record Both (s : FactSet) (k : Two) : Type 0 where
 -- e is the highest of the places for which P holds, nil if there is none
 pub record Top {V K : Type 0} (tally : Ghosts V) (P : K → Type 0) (val : K → Estimate V) (e : Estimate V) : Type 0 where
   pub upper : (k : K) → P k → NotAbove tally (val k) e
-  pub reached : (e ≡ Value tally.nil) ⊎ ((k : K) × P k × (e ≡ val k))
+  pub reached : (e ≡ Some tally.nil) ⊎ ((k : K) × P k × (e ≡ val k))
 
 -- the same as a function: the highest value among the numbers below n that `from` has
 unfoldable pub highest : {V : Type 0} → Ghosts V → (ℕ → Bool) → (ℕ → Estimate V) → ℕ → Estimate V
-highest tally from val zero = Value tally.nil
+highest tally from val zero = Some tally.nil
 highest tally from val (suc n) = cond (from n) (larger_of (not_above tally.at_most) (highest tally from val n) (val n)) (highest tally from val n)
 
 -- a number above all facts of s

@@ -1,5 +1,5 @@
 -- The rules of a table from which it follows that its estimates are a bound, and when it fits a task.
-use Rattle.std.specs.Prelude.{◌≡◌, ℕ, Bool, ◌&&◌, ◌==◌}
+use Rattle.std.specs.Prelude.{◌≡◌, ℕ, Bool, ◌&&◌, ◌==◌, Some}
 use Rattle.std.specs.Cmp.Lexicographic.{pointwise}
 use Rattle.std.specs.List.{list_all}
 use Rattle.facts.specs.declared.sets.FactSet.{FactSet}
@@ -9,8 +9,7 @@ use Rattle.tasks.specs.Tasks.{facts_of, start_of, moves_of}
 use Rattle.tasks.specs.declared.moves.Move.{Move}
 use Rattle.tasks.specs.declared.task.Task.{Task}
 use Rattle.costs.specs.Estimates.{not_above}
-use Rattle.costs.specs.declared.estimate.Estimate.{Estimate}
-use Rattle.costs.specs.declared.estimate.Estimate.TheVariants.{Value}
+use Rattle.costs.specs.Estimates.{Estimate}
 use Rattle.costs.specs.declared.tally.Tally.{Ghosts}
 use Rattle.bounds.specs.Sound.{NotAbove}
 use Rattle.tables.specs.Equation.{Setting, offer_of}
@@ -18,7 +17,7 @@ use Rattle.tables.specs.Nets.{Net, In}
 
 pub record Rules {V K : Type 0} {b : Setting} (tally : Ghosts V) (n : Net V b K) (val : K → Estimate V) : Type 0 where
   -- sets within the start are nil
-  pub start : (k : K) → In n b.start k → val k ≡ Value tally.nil
+  pub start : (k : K) → In n b.start k → val k ≡ Some tally.nil
   -- a set is at most each regressing move's counted charge joined with the estimate of the result
   pub moves : (j : ℕ) (m : Move) (k : K) (s t : FactSet) → At b.moves j m → n.Names k s → Regresses m s t
       → NotAbove tally (val k) (offer_of tally b m (n.est val t))
@@ -47,7 +46,7 @@ is_same_task b t = b.facts == facts_of t && (is_same_set b.start (start_of t) &&
 
 abbrev pub keeps : {V K : Type 0} {b : Setting} (tally : Ghosts V) → Net V b K → (K → Estimate V) → Bool
 keeps {b = b} tally n val =
-    not_above tally.at_most (n.est val b.start) (Value tally.nil) && (list_all (n.keeps_move val) b.moves && n.keeps_further val)
+    not_above tally.at_most (n.est val b.start) (Some tally.nil) && (list_all (n.keeps_move val) b.moves && n.keeps_further val)
 
 abbrev pub fits : {V K : Type 0} {b : Setting} (tally : Ghosts V) → Net V b K → (K → Estimate V) → Task → Bool
 fits {b = b} tally n val t = is_same_task b t && keeps tally n val

@@ -7,8 +7,7 @@ use Rattle.tasks.specs.Places.{At}
 use Rattle.tasks.specs.declared.moves.Move.{Move}
 use Rattle.costs.specs.Choices.{Smaller}
 use Rattle.costs.specs.Estimates.{not_above}
-use Rattle.costs.specs.declared.estimate.Estimate.{Estimate}
-use Rattle.costs.specs.declared.estimate.Estimate.TheVariants.{Value, Never}
+use Rattle.costs.specs.Estimates.{Estimate}
 use Rattle.costs.specs.declared.tally.Tally.{Ghosts}
 use Rattle.bounds.specs.Sound.{NotAbove}
 use Rattle.tables.specs.Equation.{Setting, offer_of}
@@ -33,12 +32,12 @@ via {b = b} tally n m val t = offer_of tally b m (n.est val t)
 
 -- h is at most what the steps from each place allow
 pub record Under {V K : Type 0} {b : Setting} (tally : Ghosts V) (n : Net V b K) (h : K → Estimate V) : Type 0 where
-  pub begun : (k : K) → Start n k → NotAbove tally (h k) (Value tally.nil)
+  pub begun : (k : K) → Start n k → NotAbove tally (h k) (Some tally.nil)
   pub steps : (j : ℕ) (m : Move) (y : K) (t : FactSet) → Step n j m y t → NotAbove tally (h y) (via tally n m h t)
 
 -- the value of place y has a reason
 pub data Backed {V K : Type 0} {b : Setting} (tally : Ghosts V) (n : Net V b K) (val : K → Estimate V) (y : K) : Type 0 where
-  unreached : val y ≡ Never → Backed tally n val y
+  unreached : val y ≡ None → Backed tally n val y
   begun : Start n y → Backed tally n val y
   stepped : (j : ℕ) (m : Move) (t : FactSet) → Step n j m y t → NotAbove tally (via tally n m val t) (val y) → Backed tally n val y
 
@@ -46,8 +45,8 @@ pub data Backed {V K : Type 0} {b : Setting} (tally : Ghosts V) (n : Net V b K) 
 pub record Sure {V K : Type 0} {b : Setting} (tally : Ghosts V) (n : Net V b K) (val : K → Estimate V) : Type 0 where
   pub above : (h : K → Estimate V) → Under tally n h → (k : K) → NotAbove tally (h k) (val k)
   pub backed : (y : K) → Backed tally n val y
-  pub begun : (k : K) → Start n k → val k ≡ Value tally.nil
-  pub absent : (k : K) → (Present n k → ⊥) → val k ≡ Never
+  pub begun : (k : K) → Start n k → val k ≡ Some tally.nil
+  pub absent : (k : K) → (Present n k → ⊥) → val k ≡ None
 
 -- between two rounds
 pub record Settling {V K : Type 0} {b : Setting} (tally : Ghosts V) (n : Net V b K) (val : K → Estimate V) (done : K → Bool) : Type 0 where
@@ -60,7 +59,7 @@ pub record Relaxing {V K : Type 0} {b : Setting} (tally : Ghosts V) (n : Net V b
   pub sure : Sure tally n val
   pub low : (u : K) → T (done u) → NotAbove tally (val u) floor
   pub high : (v : K) → done v ≡ false → NotAbove tally floor (val v)
-  pub base : (floor ≡ Value tally.nil) ⊎ ((u : K) × T (done u) × (val u ≡ floor) × ((t : FactSet) → T (fresh t) → In n t u))
+  pub base : (floor ≡ Some tally.nil) ⊎ ((u : K) × T (done u) × (val u ≡ floor) × ((t : FactSet) → T (fresh t) → In n t u))
   pub closed : (j : ℕ) (m : Move) (y : K) (t : FactSet) → Step n j m y t → ((k : K) → In n t k → T (done k)) → (fresh t ≡ false) ⊎ Seen j y
       → NotAbove tally (val y) (via tally n m val t)
 
@@ -80,7 +79,7 @@ pub record Lowers {V K : Type 0} (tally : Ghosts V) (Head : K → Type 0) (offer
 -- the place of this number has become the smaller of it and the offer
 pub record LowersAt {V : Type 0} (tally : Ghosts V) (number : ℕ) (offer : Estimate V) (old new : List (Estimate V)) : Type 0 where
   pub to : Estimate V
-  pub smaller : Smaller (not_above tally.at_most) (slice_index_or old number Never) offer to
+  pub smaller : Smaller (not_above tally.at_most) (slice_index_or old number None) offer to
   pub wrote : new ≡ slice_set old number to
 
 -- r beside a fact of `heads`
@@ -97,7 +96,7 @@ both among k = among k.0 && among k.1
 
 -- the places are nil in the start, never elsewhere
 abbrev pub Begun : {V K : Type 0} {b : Setting} (tally : Ghosts V) → Net V b K → List (Estimate V) → Type 0
-Begun {b = b} tally n table = (i : ℕ) → i < n.count → slice_index_or table i Never ≡ (if n.inside b.start (n.place i) then Value tally.nil else Never)
+Begun {b = b} tally n table = (i : ℕ) → i < n.count → slice_index_or table i None ≡ (if n.inside b.start (n.place i) then Some tally.nil else None)
 
 -- all steps of the move are taken
 abbrev pub Takes : {V K : Type 0} {b : Setting} (tally : Ghosts V) → Net V b K → Move → Option K → List (Estimate V) → List (Estimate V) → Type 0
@@ -108,19 +107,19 @@ Takes {b = b} tally n m settled old new = (j : ℕ) → At b.moves j m
 pub record Cheapest {V : Type 0} (tally : Ghosts V) (done : List Bool) (table : List (Estimate V)) (u : ℕ) : Type 0 where
   pub inside : u < length table
   pub undone : slice_index_or done u false ≡ false
-  pub least : (v : ℕ) → v < length table → slice_index_or done v false ≡ false → NotAbove tally (slice_index_or table u Never) (slice_index_or table v Never)
+  pub least : (v : ℕ) → v < length table → slice_index_or done v false ≡ false → NotAbove tally (slice_index_or table u None) (slice_index_or table v None)
 
 -- the choice of the next place; none if all open places are never
 abbrev pub Picks : {V : Type 0} → Ghosts V → List Bool → List (Estimate V) → Option ℕ → Type 0
 Picks tally done table (Some u) = Cheapest tally done table u
-Picks tally done table None = (v : ℕ) → v < length table → slice_index_or done v false ≡ false → slice_index_or table v Never ≡ Never
+Picks tally done table None = (v : ℕ) → v < length table → slice_index_or done v false ≡ false → slice_index_or table v None ≡ None
 
 -- the value of the place chosen so far
 abbrev pub least_of : {V : Type 0} → Option (ℕ × V) → Estimate V
-least_of None = Never
-least_of (Some k) = Value k.1
+least_of None = None
+least_of (Some k) = Some k.1
 
 -- the choice stays, or it is this place, where that is less
 abbrev pub Lesser : {V : Type 0} → Ghosts V → Option (ℕ × V) → ℕ → Estimate V → Option (ℕ × V) → Type 0
 Lesser {V} tally best number value to =
-    ((to ≡ best) × NotAbove tally (least_of best) value) ⊎ ((v : V) × (value ≡ Value v) × (to ≡ Some (number, v)) × NotAbove tally value (least_of best))
+    ((to ≡ best) × NotAbove tally (least_of best) value) ⊎ ((v : V) × (value ≡ Some v) × (to ≡ Some (number, v)) × NotAbove tally value (least_of best))

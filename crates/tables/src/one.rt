@@ -10,7 +10,7 @@ use crate::layout::Layout;
 use crate::origin::Origin;
 use crate::places::Places;
 use crate::settling::lower_at;
-use costs::{Estimate, Tally, higher};
+use costs::{Estimate, Tally};
 use facts::FactSet;
 use tasks::Move;
 
@@ -78,7 +78,7 @@ impl<V: Tally> Places<'_, '_, V> {
         if p < self.origin.facts {
             self.at(usize::from(p))
         } else {
-            Estimate::Never
+            None
         }
     }
 
@@ -88,7 +88,7 @@ impl<V: Tally> Places<'_, '_, V> {
     {
         let mut top = Estimate::<V>::nil();
         for fact in set.iter() {
-            top = higher(top, self.single(fact));
+            top = top.larger(self.single(fact));
         }
         top
     }

@@ -55,7 +55,7 @@ impl<'a> Origin<'a> {
     pub(crate) fn offer<V: Tally>(&self, m: &Move, estimate: Estimate<V>) -> Estimate<V>
         ensures { result ≡ offer_of V.Tally (setting_in self.now) m.now estimate }
     {
-        Estimate::Value(self.counted_charge::<V>(m)).join(estimate)
+        Some(self.counted_charge::<V>(m)).join(estimate)
     }
 
     // The counted charge of the move of this number, nil past the last move.

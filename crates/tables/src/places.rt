@@ -1,6 +1,5 @@
 // A table with what it was worked out from.
 ghost use Rattle.std.specs.Prelude.{◌≡◌, slice_index_or};
-ghost use Rattle.costs.specs.declared.estimate.Estimate.TheVariants.{Never};
 
 use crate::origin::Origin;
 use costs::{Estimate, Tally};
@@ -14,12 +13,12 @@ pub struct Places<'t, 'a, V> {
 impl<V: Tally> Places<'_, '_, V> {
     // What stands at this number; a missing place is never.
     pub fn at(&self, number: usize) -> Estimate<V>
-        ensures { result ≡ slice_index_or self.now.table.now number Never }
+        ensures { result ≡ slice_index_or self.now.table.now number None }
     {
         if number < self.table.len() {
             self.table[number]
         } else {
-            Estimate::Never
+            None
         }
     }
 }

@@ -4,18 +4,18 @@ ghost use Rattle.tables.specs.Laid.{Known};
 ghost use Rattle.tables.specs.Origins.{setting_in};
 ghost use Rattle.tables.specs.Settling.{LowersAt, Picks, Lesser, Begun, Before, Turned, touches};
 ghost use Rattle.tables.specs.Nets.{place_of};
-ghost use Rattle.tables.specs.Worked.{Table};
+ghost use Rattle.tables.specs.Worked.{WorkedOut};
 
 use crate::layout::Layout;
 use crate::origin::Origin;
-use costs::{Estimate, Tally, lower};
+use costs::{Estimate, Tally};
 
 // Lowers the place of this number to `offer` where that is less.
 pub fn lower_at<V: Tally>(table: &mut [Estimate<V>], number: usize, offer: Estimate<V>)
     requires { number < length table.old }
     ensures { LowersAt V.Tally number offer table.old table.new }
 {
-    table[number] = lower(table[number], offer);
+    table[number] = table[number].smaller(offer);
 }
 
 // The open place of least value, with that; none if no open place has a value.
@@ -41,9 +41,9 @@ fn lesser<V: Tally>(
     ensures { Lesser V.Tally best number value result }
 {
     match (best, value) {
-        (_, Estimate::Never) => best,
-        (Some((_, least)), Estimate::Value(value)) if least.at_most(value) => best,
-        (_, Estimate::Value(value)) => Some((number, value)),
+        (_, None) => best,
+        (Some((_, least)), Some(value)) if least.at_most(value) => best,
+        (_, Some(value)) => Some((number, value)),
     }
 }
 
@@ -56,7 +56,7 @@ fn begin<L: Layout<V>, V: Tally>(origin: &Origin<'_>, table: &mut [Estimate<V>])
         *value = if L::is_start(L::place(number, origin), origin) {
             Estimate::<V>::nil()
         } else {
-            Estimate::Never
+            None
         };
     }
 }
@@ -77,9 +77,9 @@ fn take_all<L: Layout<V>, V: Tally>(
 
 // Settles the places, the cheapest first.
 pub fn settle<L: Layout<V>, V: Tally>(origin: &Origin<'_>, table: &mut [Estimate<V>])
+    requires known { Known (setting_in origin.now) }
     requires whole { length table.old ≡ (L.Layout.net (setting_in origin.now)).count }
-    requires few { origin.now.facts ≤ 64 }
-    ensures { Known (setting_in origin.now) → Table V.Tally (L.Layout.net (setting_in origin.now)) table.new }
+    ensures { WorkedOut V.Tally (L.Layout.net (setting_in origin.now)) table.new }
 {
     // does nothing: it brings what holds of the places
     L::is_laid();

@@ -10,7 +10,7 @@ use crate::layout::Layout;
 use crate::origin::Origin;
 use crate::places::Places;
 use crate::settling::lower_at;
-use costs::{Estimate, Tally, higher};
+use costs::{Estimate, Tally};
 use facts::FactSet;
 use std::ops::Range;
 use tasks::Move;
@@ -60,7 +60,7 @@ impl<V: Tally> Layout<V> for Two {
         };
         let base = places.highest_pair(m.needs);
         // where its needs are never met, the move offers nothing
-        if let Estimate::Never = base {
+        if let None = base {
             return;
         }
         let heads = m.makes.without(m.breaks);
@@ -101,7 +101,7 @@ impl<V: Tally> Places<'_, '_, V> {
         if (p < facts) & (q < facts) {
             self.at(number_of(facts, p, q))
         } else {
-            Estimate::Never
+            None
         }
     }
 
@@ -111,7 +111,7 @@ impl<V: Tally> Places<'_, '_, V> {
     {
         let mut top = Estimate::<V>::nil();
         for q in set.iter() {
-            top = higher(top, self.pair(p, q));
+            top = top.larger(self.pair(p, q));
         }
         top
     }
@@ -122,7 +122,7 @@ impl<V: Tally> Places<'_, '_, V> {
     {
         let mut top = Estimate::<V>::nil();
         for p in set.iter() {
-            top = higher(top, self.row(p, set));
+            top = top.larger(self.row(p, set));
         }
         top
     }
@@ -133,8 +133,8 @@ impl<V: Tally> Places<'_, '_, V> {
     {
         let mut top = self.pair(r, r);
         for p in set.iter() {
-            top = higher(top, self.pair(p, r));
-            top = higher(top, self.pair(r, p));
+            top = top.larger(self.pair(p, r));
+            top = top.larger(self.pair(r, p));
         }
         top
     }
@@ -147,7 +147,7 @@ impl<V: Tally> Places<'_, '_, V> {
         if m.makes.has(r) | m.needs.has(r) {
             base
         } else {
-            higher(base, self.beside(r, m.needs))
+            base.larger(self.beside(r, m.needs))
         }
     }
 

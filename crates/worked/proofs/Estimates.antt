@@ -1,5 +1,7 @@
 -- The estimates of the greatest solution, computed.
-use Rattle.std.proofs.Common.{◌≡◌, ℕ, ◌^◌, Bool, true, ◌||◌, eqb, ap, ◌∙◌}
+use Rattle.std.proofs.Common.{◌≡◌, ℕ, ◌^◌, ◌<◌, Bool, true, ◌&&◌, ◌||◌, eqb, ltb, Decides, ap, ◌∙◌}
+use Rattle.std.proofs.lemmas.Bool.{ltb-true, lt-ltb}
+use Rattle.facts.specs.Sets.{has}
 use Rattle.facts.specs.Words.{bit}
 use Rattle.facts.specs.declared.sets.FactSet.{FactSet}
 use Rattle.facts.proofs.Members.{union, has_union}
@@ -8,7 +10,7 @@ use Rattle.tasks.specs.Tasks.{start_of, moves_of}
 use Rattle.tasks.specs.declared.moves.Move.{Move}
 use Rattle.tasks.specs.declared.task.Task.{Task}
 use Rattle.costs.specs.Estimates.{not_above}
-use Rattle.costs.specs.declared.estimate.Estimate.{Estimate}
+use Rattle.costs.specs.Estimates.{Estimate}
 use Rattle.costs.specs.declared.tally.Tally.{Ghosts}
 use Rattle.bounds.specs.Sound.{NotAbove, Sound}
 use Rattle.tables.specs.Equation.{Setting, Greatest}
@@ -22,7 +24,7 @@ use Rattle.tables.proofs.Order.{LawsOf}
 use Rattle.tables.proofs.Solutions.{nil_start, closed_all, greatest}
 use Rattle.tables.proofs.Soundness.{sound}
 use Rattle.tables.proofs.TwoFacts.{in_table, pairs_shape, pairs_tops, pairs_agree, pair_own}
-use Rattle.worked.specs.Tasks.{set_of}
+use Rattle.theory.specs.Tasks.{set_of}
 use Rattle.worked.proofs.Rounds.{Layout, round, round_sure, allowed, all_allowed}
 
 module _ {V : Type 0} {tally : Ghosts V} (laws : LawsOf tally) (b : Setting) where

@@ -1,6 +1,5 @@
 // The calls of a search.
 ghost use Rattle.std.specs.Prelude.{◌≡◌, length};
-ghost use Rattle.tasks.specs.Tasks.{Checked};
 ghost use Rattle.records.specs.Openings.{lent_of, problem_of};
 ghost use Rattle.search.specs.Calls.{Made, RunAnswered, ReadAnswered};
 
@@ -34,7 +33,7 @@ impl<'a, 't, V: Tally> Search<'a, 't, V> {
 
     // Reads out the list of a plan into the front of a lent list, and tells its length.
     pub fn read_out(&self, list: &mut [u16]) -> Result<u16, Refusal>
-        ensures { Checked self.now.held.task → ReadAnswered V.Tally self.now.held list.old list.new result }
+        ensures { ReadAnswered V.Tally self.now.held list.old list.new result }
     {
         self.held.read_out(list)
     }

@@ -1,5 +1,4 @@
-use Rattle.std.proofs.Common.{◌≡◌, ◌<◌, min, length, sym, refl, ◌∙◌, subst, arith}
-use Rattle.tasks.specs.Tasks.{Checked}
+use Rattle.std.proofs.Common.{◌≡◌, ◌<◌, min, length, refl, ◌∙◌, subst, arith}
 use Rattle.tasks.proofs.Places.{at_get}
 use Rattle.records.specs.Openings.{lent_of}
 use Rattle.queues.specs.Calls.{Noted}
@@ -10,7 +9,7 @@ pub loop-i-init : goal.loop-i-init
 loop-i-init g c = (
   stays_put _,
   none_noted _,
-  (λ checked. nothing_booked g.V.Tally (λ t. lent_of g.B.Bound t c.args.bound.now) c.args.calls.now c.args.list.now c.args.search.now.held c.args.replies.now),
+  (nothing_booked g.V.Tally (λ t. lent_of g.B.Bound t c.args.bound.now) c.args.calls.now c.args.list.now c.args.search.now.held c.args.replies.now),
   refl,
 )
 
@@ -25,10 +24,10 @@ loop-i-preserved g c =
     let here : i < length c.args.calls.now = omega (arith, c.loop-i-test.true, count) in (
       stays_on _ _ _ inv.0 new.stays,
       one_noted c.answer-told.result c.note.ensures less inv.1,
-      (λ checked.
+      (
           one_booked g.V.Tally (λ t. lent_of g.B.Bound t c.args.bound.now) c.args.calls.now c.args.list.now c.args.search.now.held
-          c.note.ensures less inv.0 c.loop-i.auto.list (at_get c.args.calls.now i _ here) (inv.2 checked)
-          (new.reply (subst Checked (sym inv.0.task) checked))),
+          c.note.ensures less inv.0 c.loop-i.auto.list (at_get c.args.calls.now i _ here) inv.2
+          new.reply),
       c.answer-told.ensures.lent ∙ inv.3,
     )
 
@@ -40,9 +39,9 @@ returns g c =
       served = record {
         stays = inv.0;
         noted = subst (λ n. Noted n c.args.replies.now c.loop-i.replies) all inv.1;
-        book = λ checked.
+        book =
             subst (λ n. Noting g.V.Tally (λ t. lent_of g.B.Bound t c.args.bound.now) c.args.calls.now c.args.list.now c.args.search.now.held n
-            c.loop-i.replies c.loop-i.list c.loop-i.search.held) all (inv.2 checked);
+            c.loop-i.replies c.loop-i.list c.loop-i.search.held) all inv.2;
       };
       lent = inv.3;
     }

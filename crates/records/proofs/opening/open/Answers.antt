@@ -15,5 +15,5 @@ returns g c =
     let less : c.args.choice.now.number < c.in_ok-count.count = omega (arith, c.requires.choice, grown.more) in
     record {
       grows = shut_grown less grown c.shut.ensures;
-      opened = λ checked. all_opened (problem_of g.V.Tally g.B.Bound c.args.task.now c.args.bound.now c.args.room) c.args.table.now c.args.count _ _ less (c.in_ok-count.ensures.taken checked) c.shut.ensures;
+      opened = all_opened (problem_of g.V.Tally g.B.Bound c.args.task.now c.args.bound.now c.args.room) c.args.table.now c.args.count _ _ less c.in_ok-count.ensures.taken c.shut.ensures;
     }

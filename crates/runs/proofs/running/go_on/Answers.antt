@@ -7,7 +7,7 @@ use Rattle.runs.proofs.Carrying.{is_not, nothing_yet, one_opened, none_left, pla
 use Rattle.runs.proofs.running.go_on.Goals as goal
 
 pub loop-first-init : goal.loop-first-init
-loop-first-init g c = (as_it_was c.requires.count, omega arith, λ checked. nothing_yet _ _ _)
+loop-first-init g c = (as_it_was c.requires.count, omega arith, nothing_yet _ _ _)
 
 pub returns-in_default : goal.returns-in_default
 returns-in_default g c =
@@ -15,7 +15,7 @@ returns-in_default g c =
     rw c.ran_out.ensures (record {
       grown = inv.0;
       inside = tt;
-      ran = λ checked known. record { runs = none_left _ _ _ (inv.2 checked) c.in_default.ensures; sane = ∣ tt ∣₁ };
+      ran = λ known. record { runs = none_left _ _ _ inv.2 c.in_default.ensures; sane = ∣ tt ∣₁ };
     })
 
 pub returns-then-arrives : goal.returns-then-arrives
@@ -27,7 +27,7 @@ returns-then-arrives g c =
     rw c.arrived.ensures (record {
       grown = inv.0;
       inside = less;
-      ran = λ checked known. (let both = plan_found _ _ _ (inv.2 checked) chosen (c.if-arrives.ensures.0 refl)
+      ran = λ known. (let both = plan_found _ _ _ inv.2 chosen (c.if-arrives.ensures.0 refl)
           (λ l t h. c.trail_length-length.ensures l t (omega (arith, h, size))) known in record { runs = both.0; sane = both.1 });
     })
 
@@ -37,10 +37,10 @@ returns-then-is_used_up g c =
     rw c.paused.ensures (record {
       grown = inv.0;
       inside = tt;
-      ran = λ checked known. record {
-        runs = grant_used _ _ _ (inv.2 checked) c.in-Some.ensures (is_not c.if-arrives.ensures)
+      ran = λ known. record {
+        runs = grant_used _ _ _ inv.2 c.in-Some.ensures (is_not c.if-arrives.ensures)
             (omega (arith, inv.1, leb-true _ _ (sym c.if-is_used_up.ensures)));
-        sane = (inv.2 checked).threads known;
+        sane = inv.2.threads known;
       };
     })
 
@@ -64,9 +64,9 @@ returns-in-Err g c =
     rw c.filled.ensures (record {
       grown = grown_on inv.0 full.grows;
       inside = less;
-      ran = λ checked known. record {
-        runs = no_room _ _ _ (inv.2 checked) chosen (is_not c.if-arrives.ensures) (leb-false _ _ (sym c.if-is_used_up.ensures))
-            (full.opened checked);
+      ran = λ known. record {
+        runs = no_room _ _ _ inv.2 chosen (is_not c.if-arrives.ensures) (leb-false _ _ (sym c.if-is_used_up.ensures))
+            full.opened;
         sane = ∣ tt ∣₁;
       };
     })
@@ -77,8 +77,8 @@ loop-first-preserved g c =
     let done = c.in-Ok.ensures in (
       grown_on inv.0 done.grows,
       omega (arith, leb-false _ _ (sym c.if-is_used_up.ensures)),
-      λ checked. one_opened _ _ _ (inv.2 checked) (record { lawful = g.met.V.Tally.lawful }) c.in-Some.ensures
-          (is_not c.if-arrives.ensures) (done.opened checked) (leb-false _ _ (sym c.if-is_used_up.ensures)),
+      one_opened _ _ _ inv.2 (record { lawful = g.met.V.Tally.lawful }) c.in-Some.ensures
+          (is_not c.if-arrives.ensures) done.opened (leb-false _ _ (sym c.if-is_used_up.ensures)),
     )
 
 pub overflow_add-opened : goal.overflow_add-opened

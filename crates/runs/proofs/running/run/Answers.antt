@@ -6,5 +6,5 @@ pub returns-in-Some : goal.returns-in-Some
 returns-in-Some g c = record {
   grown = as_it_was c.requires.count;
   inside = c.requires.inside;
-  ran = λ checked known. record { runs = again (c.in-Some.ensures known _); sane = known };
+  ran = λ known. record { runs = again (c.in-Some.ensures known _); sane = known };
 }

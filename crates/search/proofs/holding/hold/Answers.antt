@@ -12,10 +12,10 @@ pub returns-in-Some : goal.returns-in-Some
 returns-in-Some g c =
     let P = problem_of g.V.Tally g.B.Bound c.args.task c.args.bound.now (length c.args.table.now) in
     record {
-      fit = record { counted = omega arith; fits = omega arith; whole = λ e. impossible (cc c.in-Some.is); inside = tt; traced = λ checked. ∣ no_threads ∣₁ };
+      fit = record { counted = omega arith; fits = omega arith; whole = λ e. impossible (cc c.in-Some.is); inside = tt; traced = ∣ no_threads ∣₁ };
       made = record {
         task = refl;
-        honest = λ checked. record { checked = checked; sound = c.turned_down-kept.ensures.sound };
+        honest = record { sound = c.turned_down-kept.ensures.sound };
         makes = is_refused P c.turned_down-kept.ensures.sized _ _ c.in-Some.is;
         rest = untouched;
       };
@@ -31,10 +31,10 @@ returns-in_default-estimate g c =
     let P = problem_of g.V.Tally g.B.Bound c.args.task c.args.bound.now (length c.args.table.now) in
     let never = sym (c.estimate.ensures ∙ ap (λ s. g.B.Bound.estimated c.args.bound.now s) c.goal.ensures) ∙ c.in_default-estimate.is in
     record {
-      fit = record { counted = omega arith; fits = omega arith; whole = λ e. refl; inside = tt; traced = λ checked. ∣ no_threads ∣₁ };
+      fit = record { counted = omega arith; fits = omega arith; whole = λ e. refl; inside = tt; traced = ∣ no_threads ∣₁ };
       made = record {
         task = refl;
-        honest = λ checked. record { checked = checked; sound = c.turned_down-kept.ensures.sound };
+        honest = record { sound = c.turned_down-kept.ensures.sound };
         makes = is_hopeless P c.turned_down-kept.ensures.sized c.in_default.is never refl;
         rest = untouched;
       };
@@ -50,7 +50,7 @@ returns g c =
     let table = c.args.table.now in
     let P = problem_of g.V.Tally g.B.Bound c.args.task c.args.bound.now (length table) in
     let some : 1 ≤ length table = (is_roomy P c.turned_down-kept.ensures.sized c.in_default.is).some in
-    let hope = sym (c.estimate.ensures ∙ ap (λ s. g.B.Bound.estimated c.args.bound.now s) c.goal.ensures) ∙ c.in-Value.is in
+    let hope = sym (c.estimate.ensures ∙ ap (λ s. g.B.Bound.estimated c.args.bound.now s) c.goal.ensures) ∙ c.in-Some-estimate.is in
     let first = c.goal_record.result in
     let written = c.write_first.ensures in
     let size : length c.write_first.new.table ≡ length table = ap length written ∙ length-set table 0 first in
@@ -61,13 +61,13 @@ returns g c =
         fits = omega (arith, size);
         whole = λ e. sym size;
         inside = tt;
-        traced = λ checked. ∣ subst Threads (sym recs) (one_thread first) ∣₁;
+        traced = ∣ subst Threads (sym recs) (one_thread first) ∣₁;
       };
       made = record {
         task = refl;
-        honest = λ checked. record { checked = checked; sound = c.turned_down-kept.ensures.sound };
+        honest = record { sound = c.turned_down-kept.ensures.sound };
         makes = is_waiting P c.turned_down-kept.ensures.sized c.in_default.is hope
-            (recs ∙ ap (λ r. r ∷ []) (c.goal_record.ensures ∙ ap (λ s. record { set = s; spent = g.V.Tally.nil; promise = c.in-Value.promise; parent = 65535; via = 65535; mark = Waiting }) c.goal-2.ensures));
+            (recs ∙ ap (λ r. r ∷ []) (c.goal_record.ensures ∙ ap (λ s. record { set = s; spent = g.V.Tally.nil; promise = c.in-Some-estimate.promise; parent = 65535; via = 65535; mark = Waiting }) c.goal-2.ensures));
         rest = past_count {count = 1} _ c.in_default.is (omega (arith, size, some))
             (record { size = size; rest = ap (drop 1) written ∙ drop-set-lt 1 table 0 first (omega arith) });
       };

@@ -10,7 +10,7 @@ unreachable-requires c =
     let b = setting_in c.of-bound.result.places.origin in
     let pairs = c.of-bound.result.places.table.now in
     let u = useful t 255 c.args.pairs.now c.requires.worked b pairs c.of-bound.ensures.0 c.of-bound.ensures.1 in
-    let asked = asks t (seen b pairs t) _ _ c.queue.new.replies c.args.list.now c.queue.new.list c.queue.result.held u c.requires.room refl (c.queue.ensures c.requires.checked) in
+    let asked = asks t (seen b pairs t) _ _ c.queue.new.replies c.args.list.now c.queue.new.list c.queue.result.held u c.requires.room refl c.queue.ensures in
     always_found asked c.index-told-0.result c.in_default.not-Ran
 
 pub returns : goal.returns
@@ -19,5 +19,5 @@ returns c =
     let b = setting_in c.of-bound.result.places.origin in
     let pairs = c.of-bound.result.places.table.now in
     let u = useful t 255 c.args.pairs.now c.requires.worked b pairs c.of-bound.ensures.0 c.of-bound.ensures.1 in
-    let asked = asks t (seen b pairs t) _ _ c.queue.new.replies c.args.list.now c.queue.new.list c.queue.result.held u c.requires.room refl (c.queue.ensures c.requires.checked) in
+    let asked = asks t (seen b pairs t) _ _ c.queue.new.replies c.args.list.now c.queue.new.list c.queue.result.held u c.requires.room refl c.queue.ensures in
     found asked c.index-told-0.result c.in-Ran.reply c.in-Ran.is

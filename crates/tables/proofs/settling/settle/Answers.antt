@@ -15,7 +15,7 @@ loop-chosen-init g c =
 pub loop-chosen-smaller : goal.loop-chosen-smaller
 loop-chosen-smaller g c =
     let b = setting_in c.args.origin.now in
-    let few = (c.is_laid.ensures b).numbers.few c.requires.few in
+    let few = (c.is_laid.ensures b).numbers.few c.requires.known.few in
     undone_less c.loop-chosen.done c.in-Some.chosen
     (omega (arith, c.in-Some.ensures.inside, c.loop-chosen.array_long, c.loop-chosen.auto.table, c.take_all.auto.table, c.begin.auto.table, c.requires.whole, few)) c.in-Some.ensures.undone
 
@@ -24,7 +24,7 @@ loop-chosen-preserved g c =
     let b = setting_in c.args.origin.now in
     let n = g.L.Layout.net b in
     let laid = c.is_laid.ensures b in
-    let few = laid.numbers.few c.requires.few in
+    let few = laid.numbers.few c.requires.known.few in
     let old = c.loop-chosen.table in
     let new = c.take_all-in-Some.new.table in
     let whole : length old ≡ n.count = omega (arith, c.loop-chosen.auto.table, c.take_all.auto.table, c.begin.auto.table, c.requires.whole) in
@@ -36,4 +36,4 @@ returns g c =
     let b = setting_in c.args.origin.now in
     let n = g.L.Layout.net b in
     let whole : length c.loop-chosen.table ≡ n.count = omega (arith, c.loop-chosen.auto.table, c.take_all.auto.table, c.begin.auto.table, c.requires.whole) in
-    last_round n (laws_of g.V.Tally g.met.V.Tally.lawful) (c.is_laid.ensures b) c.loop-chosen.table c.loop-chosen.done whole c.loop-chosen.invariant c.in_default.ensures
+    last_round n (laws_of g.V.Tally g.met.V.Tally.lawful) (c.is_laid.ensures b) c.loop-chosen.table c.loop-chosen.done whole c.loop-chosen.invariant c.in_default.ensures c.requires.known

@@ -10,14 +10,14 @@ use Rattle.search.proofs.held.Held.run.Goals as goal
 pub returns-in-Some : goal.returns-in-Some
 returns-in-Some g c = record {
   fit = c.requires;
-  ran = record { task = refl; answered = λ checked made. keeps_number _ _ _ c.in-Some.is; grows = omega arith; rest = untouched };
+  ran = record { task = refl; answered = λ made. keeps_number _ _ _ c.in-Some.is; grows = omega arith; rest = untouched };
   lent = refl;
 }
 
 pub returns-then-grant-gt65536 : goal.returns-then-grant-gt65536
 returns-then-grant-gt65536 g c = record {
   fit = c.requires;
-  ran = record { task = refl; answered = λ checked made. by_rules _ c.in_default.is (run_refused (grant_too_large c.if-grant-gt65536.true)); grows = omega arith; rest = untouched };
+  ran = record { task = refl; answered = λ made. by_rules _ c.in_default.is (run_refused (grant_too_large c.if-grant-gt65536.true)); grows = omega arith; rest = untouched };
   lent = refl;
 }
 
@@ -26,8 +26,8 @@ returns-in-Some-unusable g c = record {
   fit = c.requires;
   ran = record {
     task = refl;
-    answered = λ checked made. by_rules _ c.in_default.is
-        (run_refused (RunRefused.bad_bound c.if-grant-gt65536.false (c.in-Some-unusable.ensures.tells checked _ refl)));
+    answered = λ made. by_rules _ c.in_default.is
+        (run_refused (RunRefused.bad_bound c.if-grant-gt65536.false (c.in-Some-unusable.ensures.tells _ refl)));
     grows = omega arith;
     rest = untouched;
   };
@@ -46,16 +46,16 @@ returns g c =
         fits = omega (arith, c.requires.fits, size);
         whole = λ e. c.requires.whole e ∙ sym size;
         inside = c.run-ran.ensures.inside;
-        traced = λ checked. (c.run-ran.ensures.ran checked (c.requires.traced checked)).sane;
+        traced = (c.run-ran.ensures.ran c.requires.traced).sane;
       };
       ran = record {
         task = refl;
-        answered = λ checked made. by_rules _ c.in_default.is
-            (runs c.if-grant-gt65536.false (c.in_default-unusable.ensures.tells checked _ refl)
+        answered = λ made. by_rules _ c.in_default.is
+            (runs c.if-grant-gt65536.false (c.in_default-unusable.ensures.tells _ refl)
             (run_by (problem_in g.V.Tally s made) lent (record { fits = made.fits; estimate = lent.estimate; share = made.share }) (λ set. refl)
             (subst (λ n. Runs (problem_of g.V.Tally g.B.Bound s.task c.args.bound.now n) c.args.grant (take s.count s.table.now) s.end
             c.run-ran.result.reply (take c.run-ran.result.count c.run-ran.new.table) c.run-ran.result.end)
-            (c.requires.whole c.in_default.is) (c.run-ran.ensures.ran checked (c.requires.traced checked)).runs)));
+            (c.requires.whole c.in_default.is) (c.run-ran.ensures.ran c.requires.traced).runs)));
         grows = more_records _ _ _ _ c.in_default.is grown.more (omega (arith, grown.fits, c.requires.fits, size));
         rest = past_count {count = c.run-ran.result.count} _ c.in_default.is (omega (arith, grown.fits, c.requires.fits, size)) grown.untouched;
       };

@@ -1,6 +1,6 @@
 use Rattle.std.proofs.Common.{◌≡◌, ℕ, ◌||◌, T, refl, ap, ◌∙◌, sym, subst, inl, inr, ⊎_elim}
 use Rattle.costs.specs.Estimates.{not_above}
-use Rattle.costs.specs.declared.estimate.Estimate.{Estimate}
+use Rattle.costs.specs.Estimates.{Estimate}
 use Rattle.costs.specs.declared.tally.Tally.{Ghosts}
 use Rattle.facts.specs.Sets.{has}
 use Rattle.tables.specs.Equation.{offer_of}

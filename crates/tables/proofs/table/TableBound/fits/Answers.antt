@@ -1,6 +1,5 @@
-use Rattle.std.proofs.Common.{◌↔◌, IsTrue, ◌&&◌, ap, ◌∙◌, sym, subst}
+use Rattle.std.proofs.Common.{◌↔◌, IsTrue, ◌&&◌, ap, ◌∙◌, sym, subst, None}
 use Rattle.facts.proofs.Tests.{to_true}
-use Rattle.costs.specs.declared.estimate.Estimate.TheVariants.{Never}
 use Rattle.tables.specs.Nets.{place_of}
 use Rattle.tables.specs.Origins.{setting_in}
 use Rattle.tables.specs.Rules.{Fits, keeps}
@@ -18,7 +17,7 @@ returns-then-is_of-clause-exact g c =
     let laid = c.is_laid.ensures b in
     let told = c.keeps_rules.ensures ∙ ap (λ x. x && keeps tally n (place_of n table)) (sym (sym c.is_of.ensures.told ∙ c.if-is_of.true)) in
     subst (λ x. IsTrue x ↔ Fits tally n (place_of n table) c.args.task.now) (sym told)
-    (fits_tells n (laws_of tally g.met.V.Tally.lawful) laid.tops (place_of n table) (laid.tells (place_of n table) (outside n Never table)) c.args.task.now)
+    (fits_tells n (laws_of tally g.met.V.Tally.lawful) laid.tops (place_of n table) (laid.tells (place_of n table) (outside n None table)) c.args.task.now)
 
 pub returns-then-is_of-clause-sound : goal.returns-then-is_of-clause-sound
 returns-then-is_of-clause-sound g c = λ h.

@@ -3,7 +3,7 @@ use Rattle.costs.specs.Estimates.{not_above}
 use Rattle.facts.specs.Sets.{has}
 use Rattle.facts.specs.declared.sets.FactSet.{FactSet}
 use Rattle.tasks.specs.declared.moves.Move.{Move}
-use Rattle.costs.specs.declared.estimate.Estimate.{Estimate}
+use Rattle.costs.specs.Estimates.{Estimate}
 use Rattle.costs.specs.declared.tally.Tally.{Ghosts}
 use Rattle.tables.specs.Equation.{Setting, offer_of}
 use Rattle.tables.specs.Nets.{pairs, place_of, heads, every, keeps_beside}

@@ -3,7 +3,7 @@ use Rattle.std.proofs.lemmas.Bool.{cases_eq}
 use Rattle.facts.specs.Sets.{has}
 use Rattle.facts.proofs.Tests.{from_true, not_both}
 use Rattle.tasks.specs.Places.{At}
-use Rattle.costs.specs.declared.estimate.Estimate.{Estimate}
+use Rattle.costs.specs.Estimates.{Estimate}
 use Rattle.tables.specs.Equation.{offer_of}
 use Rattle.tables.specs.Nets.{pairs, place_of}
 use Rattle.tables.specs.Origins.{setting_in}
@@ -34,13 +34,13 @@ returns-then-others g c = λ j at.
     let none = with_first laws b c.args.settled j m at val (Upto a a) (λ x h. omega (arith, h.0, h.1)) in
     record { runs = λ done floor r. all.runs done floor (none.runs done floor r) }
 
-pub returns-in-Never : goal.returns-in-Never
-returns-in-Never g c = λ j at.
+pub returns-in-None : goal.returns-in-None
+returns-in-None g c = λ j at.
     let laws = laws_of g.V.Tally g.met.V.Tally.lawful in
     let b = setting_in c.args.origin.now in
     let m = c.args.m.now in
     let val = place_of (pairs g.V.Tally b) c.args.table.now in
-    with_never laws b c.args.settled j m at val (sym (top_sole laws c.highest_pair-base.ensures (pairs_top laws val m.needs)) ∙ c.in-Never.is)
+    with_never laws b c.args.settled j m at val (sym (top_sole laws c.highest_pair-base.ensures (pairs_top laws val m.needs)) ∙ c.in-None.is)
 
 pub loop-r-init : goal.loop-r-init
 loop-r-init g c = (
