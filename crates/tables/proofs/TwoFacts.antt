@@ -226,9 +226,12 @@ module _ {V : Type 0} {tally : Ghosts V} (laws : LawsOf tally) (b : Setting) whe
           (λ j n y t st f w. inl (⊎_elim (λ l. inl l)
           (λ x. let g = (own_step j n y t x.0 st).1 in
           let stays : (z : ℕ) → T (has st.set z) → (z ≡ r → ⊥) = λ z h e. g.breaks (z, subst (λ q. T (has m.breaks q)) (sym e) broken, h) in
-          inr (x.0, ⊎_elim
-          (λ a. inl (a.0, ⊎_elim (λ old. old) (λ e. absurd (stays y.1 (both_second st.names) e)) (split y.1 a.1)))
-          (λ a. inr (a.0, ⊎_elim (λ old. old) (λ e. absurd (stays y.0 (both_first st.names) e)) (split y.0 a.1))) x.1)) w)) now;
+          inr (
+            x.0,
+            ⊎_elim
+                (λ a. inl (a.0, ⊎_elim (λ old. old) (λ e. absurd (stays y.1 (both_second st.names) e)) (split y.1 a.1)))
+                (λ a. inr (a.0, ⊎_elim (λ old. old) (λ e. absurd (stays y.0 (both_first st.names) e)) (split y.0 a.1))) x.1,
+          )) w)) now;
     }
 
     -- a move whose needs are never offers nothing

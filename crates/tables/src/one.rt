@@ -117,12 +117,7 @@ fn lower_singles<V: Tally>(
 }
 
 // Lowers the place of fact p.
-fn lower_single<V: Tally>(
-    table: &mut [Estimate<V>],
-    origin: &Origin<'_>,
-    p: u8,
-    offer: Estimate<V>,
-)
+fn lower_single<V: Tally>(table: &mut [Estimate<V>], origin: &Origin<'_>, p: u8, offer: Estimate<V>)
     requires { length table.old ≡ origin.now.facts }
     ensures { Lowers V.Tally (λ k. Present (singles V.Tally (setting_in origin.now)) k × (k ≡ p)) offer (place_of (singles V.Tally (setting_in origin.now)) table.old) (place_of (singles V.Tally (setting_in origin.now)) table.new) }
 {

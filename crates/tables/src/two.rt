@@ -41,12 +41,7 @@ impl<V: Tally> Layout<V> for Two {
         places.highest_pair(set)
     }
 
-    fn take(
-        origin: &Origin<'_>,
-        m: &Move,
-        settled: Option<(u8, u8)>,
-        table: &mut [Estimate<V>],
-    )
+    fn take(origin: &Origin<'_>, m: &Move, settled: Option<(u8, u8)>, table: &mut [Estimate<V>])
         requires { length table.old ≡ origin.now.facts * origin.now.facts }
         ensures { Takes V.Tally (pairs V.Tally (setting_in origin.now)) m.now settled table.old table.new }
     {
