@@ -5,7 +5,7 @@ ghost use Rattle.answers.specs.Floors.{floor_text, IsFloor};
 use bounds::Bound;
 use costs::{Estimate, Minutes};
 use std::fmt;
-use tables::{Pair, work_out_pair};
+use tables::{Pair, Two, work_out};
 use tasks::Task;
 
 // The estimate of the goal, in minutes, with all groups counted.
@@ -20,7 +20,7 @@ fn goal_estimate(task: &Task<'_>, groups: u8) -> Estimate<Minutes>
     ensures { IsFloor task.now groups result }
 {
     let mut table: [Estimate<Minutes>; 4096] = [None; 4096];
-    let _ = work_out_pair(task, groups, &mut table);
+    let _ = work_out::<Two, Minutes>(task, groups, &mut table);
     Pair::of(task, groups, &table).estimate(task.goal())
 }
 

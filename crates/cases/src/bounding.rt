@@ -5,7 +5,7 @@ use samples::{draft_of, move_of, set_of, task_of, two_moves};
 use std::marker::PhantomData;
 use std::process::Abort;
 use std::test::Fail;
-use tables::{Pair, Single, work_out_pair, work_out_single};
+use tables::{One, Pair, Single, Two, work_out};
 use tasks::{Draft, Move};
 
 // The minutes, `None` for never.
@@ -22,7 +22,7 @@ fn single(rt: &impl Abort, groups: u8) -> Result<Option<u32>, Fail> {
     let moves = two_moves()?;
     let task = task_of(draft_of(&moves)?)?;
     let mut table: [Estimate<Minutes>; 3] = [None; 3];
-    assert!(rt; work_out_single(&task, groups, &mut table).is_ok());
+    assert!(rt; work_out::<One, Minutes>(&task, groups, &mut table).is_ok());
     Ok(minutes(Single::of(&task, groups, &table).estimate(task.goal())))
 }
 
@@ -31,7 +31,7 @@ fn pair(rt: &impl Abort, set: FactSet) -> Result<Option<u32>, Fail> {
     let moves = two_moves()?;
     let task = task_of(draft_of(&moves)?)?;
     let mut table: [Estimate<Minutes>; 9] = [None; 9];
-    assert!(rt; work_out_pair(&task, 255, &mut table).is_ok());
+    assert!(rt; work_out::<Two, Minutes>(&task, 255, &mut table).is_ok());
     Ok(minutes(Pair::of(&task, 255, &table).estimate(set)))
 }
 
@@ -41,8 +41,8 @@ fn sum(rt: &impl Abort, one: u8, other: u8) -> Result<(Option<u32>, bool), Fail>
     let task = task_of(draft_of(&moves)?)?;
     let mut first: [Estimate<Minutes>; 3] = [None; 3];
     let mut second: [Estimate<Minutes>; 3] = [None; 3];
-    assert!(rt; work_out_single(&task, one, &mut first).is_ok());
-    assert!(rt; work_out_single(&task, other, &mut second).is_ok());
+    assert!(rt; work_out::<One, Minutes>(&task, one, &mut first).is_ok());
+    assert!(rt; work_out::<One, Minutes>(&task, other, &mut second).is_ok());
     let both = Sum {
         one: Single::of(&task, one, &first),
         other: Single::of(&task, other, &second),
@@ -71,8 +71,8 @@ fn sums_in_worst(rt: HostRuntime) -> Result<(), Fail> {
     let task = task_of(draft_of(&moves)?)?;
     let mut all: [Estimate<Worst>; 3] = [None; 3];
     let mut second: [Estimate<Worst>; 3] = [None; 3];
-    assert!(rt; work_out_single(&task, 255, &mut all).is_ok());
-    assert!(rt; work_out_single(&task, 2, &mut second).is_ok());
+    assert!(rt; work_out::<One, Worst>(&task, 255, &mut all).is_ok());
+    assert!(rt; work_out::<One, Worst>(&task, 2, &mut second).is_ok());
     let both = Sum {
         one: Single::of(&task, 255, &all),
         other: Single::of(&task, 2, &second),
@@ -87,7 +87,7 @@ fn worst_pair(rt: &impl Abort, groups: u8) -> Result<Option<u16>, Fail> {
     let moves = two_moves()?;
     let task = task_of(draft_of(&moves)?)?;
     let mut table: [Estimate<Worst>; 9] = [None; 9];
-    assert!(rt; work_out_pair(&task, groups, &mut table).is_ok());
+    assert!(rt; work_out::<Two, Worst>(&task, groups, &mut table).is_ok());
     Ok(highest(Pair::of(&task, groups, &table).estimate(task.goal())))
 }
 
@@ -103,7 +103,7 @@ fn a_pile_of_bounds(rt: HostRuntime) -> Result<(), Fail> {
     let moves = two_moves()?;
     let task = task_of(draft_of(&moves)?)?;
     let mut table: [Estimate<Minutes>; 9] = [None; 9];
-    assert!(rt; work_out_pair(&task, 255, &mut table).is_ok());
+    assert!(rt; work_out::<Two, Minutes>(&task, 255, &mut table).is_ok());
     let pair = Pair::of(&task, 255, &table);
     let blind = Blind { of: PhantomData };
     let pile = Higher {
@@ -142,7 +142,7 @@ fn moves_that_need_each_other(rt: HostRuntime) -> Result<(), Fail> {
         moves: &moves,
     })?;
     let mut table: [Estimate<Minutes>; 2] = [None; 2];
-    assert!(rt; work_out_single(&task, 255, &mut table).is_ok());
+    assert!(rt; work_out::<One, Minutes>(&task, 255, &mut table).is_ok());
     assert_eq!(rt; minutes(table[0]), None);
     assert_eq!(rt; minutes(table[1]), None);
     Ok(())
@@ -198,7 +198,7 @@ fn fits_other(rt: &impl Abort, draft: Draft<'_>) -> Result<bool, Fail> {
     let task = task_of(draft_of(&moves)?)?;
     let other = task_of(draft)?;
     let mut table: [Estimate<Minutes>; 3] = [None; 3];
-    assert!(rt; work_out_single(&task, 255, &mut table).is_ok());
+    assert!(rt; work_out::<One, Minutes>(&task, 255, &mut table).is_ok());
     Ok(Single::of(&task, 255, &table).fits(&other))
 }
 
@@ -250,7 +250,7 @@ fn short_tables(rt: HostRuntime) -> Result<(), Fail> {
     let moves = two_moves()?;
     let task = task_of(draft_of(&moves)?)?;
     let mut table = [value(0), value(15)];
-    assert!(rt; work_out_single(&task, 255, &mut table).is_err());
+    assert!(rt; work_out::<One, Minutes>(&task, 255, &mut table).is_err());
     assert_eq!(rt;
         minutes(Single::of(&task, 255, &table).estimate(task.goal())),
         None

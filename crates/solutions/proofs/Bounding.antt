@@ -1,17 +1,19 @@
 -- The bound over a pair table that was worked out for a task can be used on that task.
-use Rattle.std.proofs.Common.{◌≡◌, ℕ, true, ◌&&◌, List, sym, refl, subst₂}
+use Rattle.std.proofs.Common.{◌≡◌, ℕ, true, List, None, sym, refl, subst₂}
 use Rattle.facts.specs.declared.sets.FactSet.{FactSet}
 use Rattle.tasks.specs.declared.task.Task.{Task}
 use Rattle.costs.specs.Estimates.{Estimate}
 use Rattle.costs.specs.declared.minutes.Minutes.{Minutes}
 use Rattle.bounds.specs.Sound.{Overdrawn}
 use Rattle.tables.specs.Equation.{Setting, setting_of, Greatest}
-use Rattle.tables.specs.Fitting.{is_same_task, keeps_pair}
-use Rattle.tables.specs.Reading.{place_of_pair, estimate_by_pairs, share_at}
-use Rattle.tables.specs.Worked.{PairsTable}
-use Rattle.tables.proofs.Cells.{pair_outside}
+use Rattle.tables.specs.Nets.{pairs, place_of, estimate_by}
+use Rattle.tables.specs.Reading.{share_at}
+use Rattle.tables.specs.Rules.{fits}
+use Rattle.tables.specs.Worked.{WorkedOut}
+use Rattle.tables.proofs.Cells.{outside}
 use Rattle.tables.proofs.Closing.{shares_are_drawn}
-use Rattle.tables.proofs.KeepingPairs.{pair_told}
+use Rattle.tables.proofs.Keeping.{fits_tells}
+use Rattle.tables.proofs.TwoFacts.{pairs_laid}
 use Rattle.theory.specs.Problem.{Lent}
 use Rattle.solutions.specs.Solutions.{minutes}
 use Rattle.solutions.proofs.Laws.{minutes_laws}
@@ -19,8 +21,8 @@ use Rattle.solutions.proofs.Laws.{minutes_laws}
 -- what is seen of the bound over a table
 abbrev pub seen : Setting → List (Estimate Minutes) → Task → Lent Minutes
 seen b table t = record {
-  fits = is_same_task b t && keeps_pair minutes b (place_of_pair b.facts table);
-  estimate = λ s. estimate_by_pairs minutes (place_of_pair b.facts table) s;
+  fits = fits minutes (pairs minutes b) (place_of (pairs minutes b) table) t;
+  estimate = λ s. estimate_by (pairs minutes b) table s;
   share = λ k. share_at minutes b.groups b.moves k;
 }
 
@@ -32,19 +34,19 @@ pub record Useful (t : Task) (groups : ℕ) (b : Lent Minutes) : Type 0 where
   pub fits : b.fits ≡ true
   pub drawn : Overdrawn minutes t b.share → ⊥
 
-useful_table : (t : Task) (groups : ℕ) (table : List (Estimate Minutes)) → PairsTable minutes (setting_of t groups) table
+useful_table : (t : Task) (groups : ℕ) (table : List (Estimate Minutes)) → WorkedOut minutes (pairs minutes (setting_of t groups)) table
     → Useful t groups (seen (setting_of t groups) table t)
 useful_table t groups table worked =
-    let b = setting_of t groups in record {
+    let n = pairs minutes (setting_of t groups) in
+    let val = place_of n table in
+    let laid = pairs_laid minutes_laws (setting_of t groups) in record {
       est = worked.est;
       greatest = worked.greatest;
       estimates = worked.reads;
-      fits = sym (pair_told minutes_laws b (place_of_pair b.facts table) (pair_outside b.facts table) t true true true refl
-          ((λ e. record { facts = refl; start = refl; moves = refl }), λ s. refl)
-          ((λ e. worked.rules), λ r. refl));
+      fits = (fits_tells n minutes_laws laid.tops val (laid.tells val (outside n None table)) t).1 (record { same = record { facts = refl; start = refl; moves = refl }; rules = worked.rules });
       drawn = shares_are_drawn minutes_laws t groups;
     }
 
-pub useful : (t : Task) (groups : ℕ) (table : List (Estimate Minutes)) → PairsTable minutes (setting_of t groups) table
+pub useful : (t : Task) (groups : ℕ) (table : List (Estimate Minutes)) → WorkedOut minutes (pairs minutes (setting_of t groups)) table
     → (b : Setting) (read : List (Estimate Minutes)) → b ≡ setting_of t groups → read ≡ table → Useful t groups (seen b read t)
 useful t groups table worked b read from same = subst₂ (λ s l. Useful t groups (seen s l t)) (sym from) (sym same) (useful_table t groups table worked)

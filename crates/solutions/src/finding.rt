@@ -1,12 +1,13 @@
 // The search that such a program makes: minutes, the pair table of all groups, 1,024 records and as many openings.
 ghost use Rattle.tables.specs.Equation.{setting_of};
-ghost use Rattle.tables.specs.Worked.{PairsTable};
+ghost use Rattle.tables.specs.Nets.{pairs as pair_net};
+ghost use Rattle.tables.specs.Worked.{WorkedOut};
 ghost use Rattle.solutions.specs.Solutions.{Solved, minutes};
 
 use costs::{Estimate, Minutes, Tally};
 use facts::FactSet;
 use queues::{Call, Told, queue};
-use tables::{Pair, work_out_pair};
+use tables::{Pair, Two, work_out};
 use tasks::Task;
 use theory::{Mark, Record, Refusal, Reply};
 
@@ -15,13 +16,13 @@ pub fn search(task: Task<'_>, list: &mut [u16; 1024]) -> Reply<Minutes>
     ensures { Solved task.entry list.old list.new result }
 {
     let mut pairs: [Estimate<Minutes>; 4096] = [None; 4096];
-    let _ = work_out_pair(&task, 255, &mut pairs);
+    let _ = work_out::<Two, Minutes>(&task, 255, &mut pairs);
     search_by(task, &pairs, list)
 }
 
 // The same by the pair table of the task.
 fn search_by(task: Task<'_>, pairs: &[Estimate<Minutes>], list: &mut [u16; 1024]) -> Reply<Minutes>
-    requires { PairsTable minutes (setting_of task 255) pairs.now }
+    requires { WorkedOut minutes (pair_net minutes (setting_of task 255)) pairs.now }
     ensures { Solved task.entry list.old list.new result }
 {
     let bound = Pair::of(&task, 255, pairs);

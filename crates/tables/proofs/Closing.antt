@@ -1,5 +1,5 @@
 -- What holds of the equation and of worked-out tables.
-use Rattle.std.proofs.Common.{◌≡◌, Bool, true, false, cond, T, refl, subst}
+use Rattle.std.proofs.Common.{◌≡◌, Bool, true, false, cond, T, subst}
 use Rattle.facts.specs.Words.{bit}
 use Rattle.facts.proofs.Tests.{not_both}
 use Rattle.tasks.specs.Tasks.{moves_of}
@@ -7,7 +7,7 @@ use Rattle.tasks.specs.declared.moves.Move.{Move}
 use Rattle.costs.specs.Lists.{charge_of}
 use Rattle.costs.specs.declared.tally.Tally.{Ghosts}
 use Rattle.costs.proofs.Orders as orders
-use Rattle.tables.specs.Theorems.{GreatestIsSole, WorkedOutTablesFit, SharesAreDrawn}
+use Rattle.tables.specs.Theorems.{GreatestIsSole, SharesAreDrawn}
 use Rattle.tables.proofs.Order as order
 use Rattle.tables.proofs.Order.{LawsOf}
 use Rattle.tables.proofs.Soundness.{share_at_move}
@@ -15,12 +15,6 @@ use Rattle.tables.proofs.Soundness.{share_at_move}
 module _ {V : Type 0} {tally : Ghosts V} (laws : LawsOf tally) where
   pub greatest_is_sole : GreatestIsSole tally
   greatest_is_sole b m est other g h s = order.antisymmetric laws (est s) (other s) (h.above est g.solves s) (g.above other h.solves s)
-
-  pub worked_out_tables_fit : WorkedOutTablesFit tally
-  worked_out_tables_fit = record {
-    single = λ t groups table worked. record { same = record { facts = refl; start = refl; moves = refl }; rules = worked.rules };
-    pair = λ t groups table worked. record { same = record { facts = refl; start = refl; moves = refl }; rules = worked.rules };
-  }
 
   counted_below : (m : Move) (b : Bool) → T (tally.at_most (cond b (charge_of tally m) tally.nil) (charge_of tally m))
   counted_below m true = orders.reflexive laws.lawful (charge_of tally m)

@@ -1,16 +1,20 @@
 -- Tests that decide.
-use Rattle.std.proofs.Common.{◌≡◌, ℕ, zero, suc, ◌+◌, ◌<◌, Bool, true, false, not, ◌&&◌, ◌||◌, T, eqb, List, [], ◌∷◌, length, get_or, Some, Decides, sym, refl, subst, ⊎_elim, arith, eqb→eq}
-use Rattle.std.proofs.lemmas.Bool.{cases_eq}
-use Rattle.facts.specs.Sets.{has, Within, Next}
-use Rattle.facts.specs.declared.sets.FactSet.{FactSet}
-use Rattle.facts.proofs.Tests.{from_true, to_true, not_true_false, same_tests, and_left, and_right, and_both}
+use Rattle.std.proofs.Common.{◌≡◌, ℕ, zero, suc, ◌+◌, ◌<◌, Bool, true, false, ◌&&◌, ◌||◌, T, eqb, List, [], ◌∷◌, Decides, sym, refl, subst, ⊎_elim, arith, eqb→eq}
+use Rattle.std.specs.List.{list_all}
+use Rattle.std.proofs.lemmas.Bool.{cases_eq, cases_Bool}
+use Rattle.facts.proofs.Tests.{from_true, to_true, not_both, same_tests, and_left, and_right, and_both}
 use Rattle.tasks.specs.Places.{At, here, there}
 use Rattle.tasks.specs.declared.moves.Move.{Move}
-use Rattle.tasks.proofs.Checks.{no_move}
-use Rattle.tasks.proofs.Places.{at_same, at_get}
-use Rattle.tables.specs.Fitting.{every, every_move, every_of, every_head}
-use Rattle.tables.specs.Reading.{past}
-use Rattle.tables.proofs.Subsets.{Gone, gone_more, has_past, eqb_from}
+use Rattle.costs.specs.Estimates.{not_above}
+use Rattle.costs.specs.Estimates.{Estimate}
+use Rattle.costs.specs.declared.tally.Tally.{Ghosts}
+use Rattle.bounds.specs.Sound.{NotAbove}
+use Rattle.tables.specs.Nets.{every}
+use Rattle.tables.specs.Reading.{Top}
+use Rattle.tables.proofs.Order as order
+use Rattle.tables.proofs.Order.{LawsOf}
+use Rattle.tables.proofs.Subsets.{eqb_from}
+use Rattle.tables.proofs.Tops.{top_below}
 
 pub decides_test : (b : Bool) → Decides b (T b)
 decides_test b = ((λ e. from_true e), λ h. to_true h)
@@ -29,10 +33,6 @@ pub decides_or_not : {P : Type 0} (a b : Bool) → Decides b P → Decides (a ||
 decides_or_not {P} true b d = ((λ e no. absurd (no tt)), λ h. refl)
 decides_or_not {P} false b d = ((λ e no. d.0 e), λ h. d.1 (h (λ x. x)))
 
-pub decides_if : {P : Type 0} (a b : Bool) → Decides b P → Decides (not a || b) (T a → P)
-decides_if true b d = ((λ e h. d.0 e), λ h. d.1 (h tt))
-decides_if false b d = ((λ e h. absurd h), λ h. refl)
-
 pub decides_equal : (m n : ℕ) → Decides (eqb m n) (m ≡ n)
 decides_equal m n = ((λ e. eqb→eq m n (from_true e)), λ e. to_true (eqb_from e))
 
@@ -45,36 +45,25 @@ module _ {P : ℕ → Type 0} (test : ℕ → Bool) (d : (k : ℕ) → Decides (
       (λ h. ((λ k l. h k (omega arith)), h n (omega arith)))
       (decides_and (every n test) (test n) (decides_every n) (d n))
 
-module _ {P : ℕ → Type 0} (test : ℕ → Bool) (d : (k : ℕ) → Decides (test k) (P k)) where
-  pub decides_every_of : (s : FactSet) → Decides (every_of s test) ((k : ℕ) → T (has s k) → P k)
-  decides_every_of s = decides_like (λ h k i. h k (has_past s k i) i) (λ h k l i. h k i)
-      (decides_every (λ k. not (has s k) || test k) (λ k. decides_if (has s k) (test k) (d k)) (past s))
-
-module _ {P : ℕ → Type 0} (test : ℕ → Bool) (d : (k : ℕ) → Decides (test k) (P k)) where
-  pub decides_every_head : (m : Move) → Decides (every_head m test) ((p : ℕ) → T (has m.makes p) → (T (has m.breaks p) → ⊥) → P p)
-  decides_every_head m = decides_every_of (λ p. has m.breaks p || test p) (λ p. decides_or_not (has m.breaks p) (test p) (d p)) m.makes
-
 module _ {P : Move → Type 0} (test : Move → Bool) (d : (m : Move) → Decides (test m) (P m)) where
-  pub decides_every_move : (moves : List Move) → Decides (every_move moves test) ((j : ℕ) (m : Move) → At moves j m → P m)
-  unfolding every_move
-  decides_every_move [] = ((λ e j m at. elim at [ ]), λ h. refl)
-  decides_every_move (n ∷ moves) = decides_like split (λ h. (h zero n here, λ j m at. h (suc j) m (there at)))
-      (decides_and (test n) (every_move moves test) (d n) (decides_every_move moves))
+  pub decides_all : (moves : List Move) → Decides (list_all test moves) ((j : ℕ) (m : Move) → At moves j m → P m)
+  decides_all [] = ((λ e j m at. elim at [ ]), λ h. refl)
+  decides_all (n ∷ moves) = decides_like split (λ h. (h zero n here, λ j m at. h (suc j) m (there at)))
+      (decides_and (test n) (list_all test moves) (d n) (decides_all moves))
     where
       split : P n × ((j : ℕ) (m : Move) → At moves j m → P m) → (j : ℕ) (m : Move) → At (n ∷ moves) j m → P m
       split w j m here = w.0
       split w j m (there at) = w.1 _ m at
 
--- a loop over the facts of a set that stops at the first that fails
-pub fails_at : {P : ℕ → Type 0} (s : FactSet) (x : ℕ) → T (has s x) → (P x → ⊥) → Decides false ((p : ℕ) → T (has s p) → P p)
-fails_at s x in-it fails = ((λ e. absurd (not_true_false e)), λ all. absurd (fails (all x in-it)))
+-- the same of a prefix, one longer
+pub every_more : (n : ℕ) (test : ℕ → Bool) → every n test ≡ true → test n ≡ true → every (n + 1) test ≡ true
+every_more n test so_far now = (decides_every test (λ k. decides_test (test k)) (n + 1)).1 (λ k l. ⊎_elim
+    (λ e. subst (λ x. T (test x)) (sym e) (from_true now)) (λ ne. (decides_every test (λ i. decides_test (test i)) n).0 so_far k (omega arith)) (cases_eq k n))
 
-pub holds_more : {P : ℕ → Type 0} (all left after : FactSet) (x : ℕ) → Within left all → Next left (Some x) after → ((p : ℕ) → Gone all left p → P p) → P x → (p : ℕ) → Gone all after p → P p
-holds_more {P} all left after x within next old now p gone = ⊎_elim (old p) (λ e. subst P (sym e) now) (gone_more all left after x within next p gone)
+pub every_fails : (n k : ℕ) (test : ℕ → Bool) → k < n → test k ≡ false → every n test ≡ false
+every_fails n k test l e = ⊎_elim (λ h. absurd (not_both ((decides_every test (λ i. decides_test (test i)) n).0 h k l) e)) (λ h. h) (cases_Bool (every n test))
 
--- a loop over moves
-pub moves_more : {P : Move → Type 0} (moves : List Move) (i : ℕ) → i < length moves → ((j : ℕ) (m : Move) → j < i → At moves j m → P m) → P (get_or moves i no_move)
-    → (j : ℕ) (m : Move) → j < i + 1 → At moves j m → P m
-moves_more {P} moves i inside old now j m l at = ⊎_elim
-    (λ e. subst P (at_same (at_get moves i no_move inside) (subst (λ x. At moves x m) e at)) now)
-    (λ ne. old j m (omega arith) at) (cases_eq j i)
+-- a highest place is at most a limit if all are
+pub top_tells : {V K : Type 0} {tally : Ghosts V} (laws : LawsOf tally) {P : K → Type 0} {val : K → Estimate V} (e limit : Estimate V) → Top tally P val e
+    → Decides (not_above tally.at_most e limit) ((k : K) → P k → NotAbove tally (val k) limit)
+top_tells laws {val = val} e limit top = ((λ h k p. order.transitive laws (val k) e limit (top.upper k p) (from_true h)), λ all. to_true (top_below laws limit top all))

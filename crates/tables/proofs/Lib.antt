@@ -7,9 +7,9 @@ pub mod Solutions
 pub mod Soundness
 pub mod Seen
 pub mod Cells
-pub mod OneFact
-pub mod TwoFacts
+pub mod Rounds
 pub mod Decisions
 pub mod Keeping
-pub mod KeepingPairs
+pub mod OneFact
+pub mod TwoFacts
 pub mod Closing

@@ -1,8 +1,10 @@
 pub mod Equation
 pub mod Reading
+pub mod Nets
+pub mod Origins
 pub mod Rules
+pub mod Settling
+pub mod Laid
 pub mod Worked
-pub mod Fitting
 pub mod Theorems
 pub mod Refusals
-pub mod Settling

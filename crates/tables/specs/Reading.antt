@@ -1,5 +1,5 @@
--- Which places a table has, and what is read from them.
-use Rattle.std.specs.Prelude.{◌≡◌, ℕ, zero, suc, ◌+◌, ◌*◌, Bool, cond, ◌&&◌, ◌||◌, ◌⊎◌, List, [], ◌∷◌, ◌==◌, nat_lt, slice_index_or, None, Some}
+-- The sets of one and of two facts, and the highest of some places.
+use Rattle.std.specs.Prelude.{◌≡◌, ℕ, zero, suc, Bool, cond, ◌||◌, ◌⊎◌, List, [], ◌∷◌, ◌==◌, Some}
 use Rattle.facts.specs.Sets.{has}
 use Rattle.facts.specs.declared.sets.FactSet.{FactSet}
 use Rattle.tasks.specs.declared.moves.Move.{Move}
@@ -21,14 +21,6 @@ Two = ℕ × ℕ
 -- the facts of s are the two
 pub record Both (s : FactSet) (k : Two) : Type 0 where
   pub has_two : (f : ℕ) → has s f ≡ (f == k.0 || f == k.1)
-
--- place p of a single table belongs to fact p; a missing place is never, and so is that of a number that is no fact
-unfoldable pub place_of_single : {V : Type 0} → ℕ → List (Estimate V) → ℕ → Estimate V
-place_of_single facts table p = cond (nat_lt p facts) (slice_index_or table p None) None
-
--- place p × F + q of a pair table belongs to p and q
-unfoldable pub place_of_pair : {V : Type 0} → ℕ → List (Estimate V) → Two → Estimate V
-place_of_pair facts table k = cond (nat_lt k.0 facts && nat_lt k.1 facts) (slice_index_or table (k.0 * facts + k.1) None) None
 
 -- e is the highest of the places for which P holds, nil if there is none
 pub record Top {V K : Type 0} (tally : Ghosts V) (P : K → Type 0) (val : K → Estimate V) (e : Estimate V) : Type 0 where

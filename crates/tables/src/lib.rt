@@ -1,24 +1,21 @@
 // Cost tables: what sets of one or two facts cost at least, and the bounds that read them.
 #![tactic(auto)]
 
-mod charges;
+mod layout;
+mod one;
 mod origin;
-mod pair;
-mod pair_places;
-mod pair_rules;
-mod pairs;
+mod places;
 mod refusal;
 mod settling;
-mod single;
-mod single_places;
-mod single_rules;
-mod singles;
+mod table;
 mod theorems;
+mod two;
+mod work;
 
+pub use one::One;
 pub use origin::Origin;
-pub use pair::Pair;
-pub use pairs::work_out_pair;
 pub use refusal::TableTooShort;
-pub use single::Single;
-pub use singles::work_out_single;
+pub use table::{Pair, Single, Table};
 pub use theorems::{greatest_is_sole, shares_are_drawn, worked_out_tables_fit};
+pub use two::Two;
+pub use work::work_out;

@@ -1,8 +1,12 @@
 // What a table was worked out from.
-ghost use Rattle.std.specs.Prelude.{◌≡◌, Decides};
-ghost use Rattle.tables.specs.Equation.{setting_of};
-ghost use Rattle.tables.specs.Fitting.{setting_in, SameTask};
+ghost use Rattle.std.specs.Prelude.{◌≡◌, ◌↔◌, IsTrue};
+ghost use Rattle.facts.specs.Words.{bit};
+ghost use Rattle.tables.specs.Equation.{setting_of, charge_if_counted, offer_of};
+ghost use Rattle.tables.specs.Origins.{setting_in};
+ghost use Rattle.tables.specs.Reading.{share_at};
+ghost use Rattle.tables.specs.Rules.{is_same_task, SameTask};
 
+use costs::{Estimate, Tally};
 use facts::FactSet;
 use tasks::{Move, Task};
 
@@ -30,40 +34,46 @@ impl<'a> Origin<'a> {
 
     // Whether the task has the same facts, start and moves; its goal may be any.
     pub fn is_of(&self, task: &Task<'_>) -> bool
-        ensures { Decides result (SameTask (setting_in self.now) task.now) }
+        ensures told { result ≡ is_same_task (setting_in self.now) task.now }
+        ensures exact { IsTrue result ↔ SameTask (setting_in self.now) task.now }
     {
-        self.facts == task.facts()
-            && same_set(self.start, task.start())
-            && same_moves(self.moves, task.moves())
+        self.facts == task.facts() && self.start == task.start() && self.moves == task.moves()
     }
-}
 
-fn same_set(one: FactSet, other: FactSet) -> bool
-    ensures { Decides result (one ≡ other) }
-{
-    one.is_within(other) && other.is_within(one)
-}
-
-fn same_move(one: &Move, other: &Move) -> bool
-    ensures { Decides result (one.now ≡ other.now) }
-{
-    one.group == other.group
-        && one.price == other.price
-        && same_set(one.needs, other.needs)
-        && same_set(one.makes, other.makes)
-        && same_set(one.breaks, other.breaks)
-}
-
-fn same_moves(one: &[Move], other: &[Move]) -> bool
-    ensures { Decides result (one.now ≡ other.now) }
-{
-    if one.len() != other.len() {
-        return false;
-    }
-    for number in 0..one.len() {
-        if !same_move(&one[number], &other[number]) {
-            return false;
+    // The charge of a move if its group is counted, otherwise nil.
+    pub(crate) fn counted_charge<V: Tally>(&self, m: &Move) -> V
+        ensures { result ≡ charge_if_counted V.Tally self.now.groups m.now }
+    {
+        if is_counted(self.groups, m.group) {
+            V::charge(m.price, m.group)
+        } else {
+            V::nil()
         }
     }
-    true
+
+    // The counted charge of a move joined with an estimate.
+    pub(crate) fn offer<V: Tally>(&self, m: &Move, estimate: Estimate<V>) -> Estimate<V>
+        ensures { result ≡ offer_of V.Tally (setting_in self.now) m.now estimate }
+    {
+        Some(self.counted_charge::<V>(m)).join(estimate)
+    }
+
+    // The counted charge of the move of this number, nil past the last move.
+    pub(crate) fn share<V: Tally>(&self, number: u16) -> V
+        ensures { result ≡ share_at V.Tally self.now.groups self.now.moves.now number }
+    {
+        let number = usize::from(number);
+        if number < self.moves.len() {
+            self.counted_charge(&self.moves[number])
+        } else {
+            V::nil()
+        }
+    }
+}
+
+// Whether the group is counted: bit i of `groups`, from the lowest, counts group i.
+fn is_counted(groups: u8, group: u8) -> bool
+    ensures { result ≡ bit groups group }
+{
+    group < 8 && (groups >> group) % 2 == 1
 }

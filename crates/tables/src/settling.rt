@@ -1,28 +1,14 @@
-// What both tables share: the choice of the place that is settled next, and lowering a place.
-ghost use Rattle.std.specs.Prelude.{◌<◌, ◌≤◌, length};
-ghost use Rattle.tables.specs.Settling.{LowersAt};
-ghost use Rattle.tables.specs.Worked.{Picks};
+// Settling the places of a table, the cheapest first.
+ghost use Rattle.std.specs.Prelude.{◌≡◌, ◌<◌, ◌≤◌, length};
+ghost use Rattle.tables.specs.Laid.{Known};
+ghost use Rattle.tables.specs.Origins.{setting_in};
+ghost use Rattle.tables.specs.Settling.{LowersAt, Picks, Lesser, Begun, Before, Turned, touches};
+ghost use Rattle.tables.specs.Nets.{place_of};
+ghost use Rattle.tables.specs.Worked.{WorkedOut};
 
+use crate::layout::Layout;
+use crate::origin::Origin;
 use costs::{Estimate, Tally};
-
-// The open place of least value; none if no open place has a value.
-pub fn cheapest<V: Tally>(count: usize, done: &[bool], table: &[Estimate<V>]) -> Option<usize>
-    requires { (count ≤ length table.now) × (count ≤ length done.now) }
-    ensures { Picks V.Tally count done.now table.now result }
-{
-    let mut best = None;
-    let mut chosen = 0;
-    for k in 0..count {
-        if !done[k] && !best.at_most(table[k]) {
-            best = table[k];
-            chosen = k;
-        }
-    }
-    match best {
-        Some(_) => Some(chosen),
-        None => None,
-    }
-}
 
 // Lowers the place of this number to `offer` where that is less.
 pub fn lower_at<V: Tally>(table: &mut [Estimate<V>], number: usize, offer: Estimate<V>)
@@ -30,4 +16,78 @@ pub fn lower_at<V: Tally>(table: &mut [Estimate<V>], number: usize, offer: Estim
     ensures { LowersAt V.Tally number offer table.old table.new }
 {
     table[number] = table[number].smaller(offer);
+}
+
+// The open place of least value, with that; none if no open place has a value.
+fn cheapest<V: Tally>(done: &[bool], table: &[Estimate<V>]) -> Option<usize>
+    requires { length table.now ≤ length done.now }
+    ensures { Picks V.Tally done.now table.now result }
+{
+    let mut best = None;
+    for (number, value) in table.iter().enumerate() {
+        if !done[number] {
+            best = lesser(best, number, *value);
+        }
+    }
+    best.map(|(number, _)| number)
+}
+
+// The place chosen so far with its value, or this one where that is less.
+fn lesser<V: Tally>(
+    best: Option<(usize, V)>,
+    number: usize,
+    value: Estimate<V>,
+) -> Option<(usize, V)>
+    ensures { Lesser V.Tally best number value result }
+{
+    match (best, value) {
+        (_, None) => best,
+        (Some((_, least)), Some(value)) if least.at_most(value) => best,
+        (_, Some(value)) => Some((number, value)),
+    }
+}
+
+// Nil at the sets within the start, never elsewhere.
+fn begin<L: Layout<V>, V: Tally>(origin: &Origin<'_>, table: &mut [Estimate<V>])
+    requires { length table.old ≡ (L.Layout.net (setting_in origin.now)).count }
+    ensures { Begun V.Tally (L.Layout.net (setting_in origin.now)) table.new }
+{
+    for (number, value) in table.iter_mut().enumerate() {
+        *value = if L::is_start(L::place(number, origin), origin) {
+            Estimate::<V>::nil()
+        } else {
+            None
+        };
+    }
+}
+
+// Takes all moves in turn.
+fn take_all<L: Layout<V>, V: Tally>(
+    origin: &Origin<'_>,
+    settled: Option<L::Place>,
+    table: &mut [Estimate<V>],
+)
+    requires { length table.old ≡ (L.Layout.net (setting_in origin.now)).count }
+    ensures { Turned V.Tally (L.Layout.net (setting_in origin.now)) (λ t. touches ((L.Layout.net (setting_in origin.now)).inside t) settled) (Before 0) (Before (length origin.now.moves.now)) (place_of (L.Layout.net (setting_in origin.now)) table.old) (place_of (L.Layout.net (setting_in origin.now)) table.new) }
+{
+    for m in origin.moves {
+        L::take(origin, m, settled, table);
+    }
+}
+
+// Settles the places, the cheapest first.
+pub fn settle<L: Layout<V>, V: Tally>(origin: &Origin<'_>, table: &mut [Estimate<V>])
+    requires known { Known (setting_in origin.now) }
+    requires whole { length table.old ≡ (L.Layout.net (setting_in origin.now)).count }
+    ensures { WorkedOut V.Tally (L.Layout.net (setting_in origin.now)) table.new }
+{
+    // does nothing: it brings what holds of the places
+    L::is_laid();
+    begin::<L, V>(origin, table);
+    take_all::<L, V>(origin, None, table);
+    let mut done = [false; 4096];
+    while let Some(chosen) = cheapest(&done, table) {
+        done[chosen] = true;
+        take_all::<L, V>(origin, Some(L::place(chosen, origin)), table);
+    }
 }

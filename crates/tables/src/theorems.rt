@@ -1,6 +1,7 @@
 // What holds of tables beyond the contracts of the functions that make and read them.
 ghost use Rattle.tables.specs.Theorems.{GreatestIsSole, WorkedOutTablesFit, SharesAreDrawn};
 
+use crate::layout::Layout;
 use costs::Tally;
 
 // There is one greatest solution.
@@ -9,8 +10,8 @@ pub fn greatest_is_sole<V: Tally>()
 {}
 
 // The bound over a table fits the task for which the table was worked out.
-pub fn worked_out_tables_fit<V: Tally>()
-    ensures { WorkedOutTablesFit V.Tally }
+pub fn worked_out_tables_fit<L: Layout<V>, V: Tally>()
+    ensures { WorkedOutTablesFit V.Tally L.Layout.net }
 {}
 
 // The shares of a bound over a table are never above the charges.

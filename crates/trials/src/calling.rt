@@ -5,7 +5,7 @@ use samples::{draft_of, set_of, task_of, two_moves};
 use search::Search;
 use std::marker::PhantomData;
 use std::test::Fail;
-use tables::{Single, work_out_single};
+use tables::{One, Single, work_out};
 use theory::{Kind, Mark};
 
 #[test]
@@ -44,8 +44,8 @@ fn an_overdrawn_bound(rt: HostRuntime) -> Result<(), Fail> {
     let task = task_of(draft_of(&moves)?)?;
     let mut all: [Estimate<Minutes>; 3] = [None; 3];
     let mut second: [Estimate<Minutes>; 3] = [None; 3];
-    assert!(rt; work_out_single(&task, 255, &mut all).is_ok());
-    assert!(rt; work_out_single(&task, 2, &mut second).is_ok());
+    assert!(rt; work_out::<One, Minutes>(&task, 255, &mut all).is_ok());
+    assert!(rt; work_out::<One, Minutes>(&task, 2, &mut second).is_ok());
     let bound = Sum {
         one: Single::of(&task, 255, &all),
         other: Single::of(&task, 2, &second),
@@ -68,7 +68,7 @@ fn a_bound_of_another_task(rt: HostRuntime) -> Result<(), Fail> {
     let task = task_of(draft_of(&moves)?)?;
     let other = task_of(draft_of(&moves[0..1])?)?;
     let mut costs: [Estimate<Minutes>; 3] = [None; 3];
-    assert!(rt; work_out_single(&other, 255, &mut costs).is_ok());
+    assert!(rt; work_out::<One, Minutes>(&other, 255, &mut costs).is_ok());
     let bound = Single::of(&other, 255, &costs);
     let blind = Blind::<Minutes> { of: PhantomData };
     let mut table = [blank::<Minutes>(); 4];

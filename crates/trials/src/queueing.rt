@@ -7,7 +7,7 @@ use samples::{draft_of, set_of, task_of, two_moves};
 use std::marker::PhantomData;
 use std::process::Abort;
 use std::test::Fail;
-use tables::{Pair, work_out_pair};
+use tables::{Pair, Two, work_out};
 use tasks::Draft;
 use theory::{Kind, Refusal};
 
@@ -152,7 +152,7 @@ fn a_bound_that_knows(rt: HostRuntime) -> Result<(), Fail> {
         ..draft_of(&moves)?
     })?;
     let mut pairs: [Estimate<Minutes>; 9] = [None; 9];
-    assert!(rt; work_out_pair(&task, 255, &mut pairs).is_ok());
+    assert!(rt; work_out::<Two, Minutes>(&task, 255, &mut pairs).is_ok());
     let bound = Pair::of(&task, 255, &pairs);
     let mut table = [blank(); 4];
     let mut told = [Told::Refused(Refusal::Misfit)];

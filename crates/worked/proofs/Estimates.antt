@@ -14,33 +14,27 @@ use Rattle.costs.specs.Estimates.{Estimate}
 use Rattle.costs.specs.declared.tally.Tally.{Ghosts}
 use Rattle.bounds.specs.Sound.{NotAbove, Sound}
 use Rattle.tables.specs.Equation.{Setting, Greatest}
-use Rattle.tables.specs.Fitting.{every}
 use Rattle.tables.specs.Reading.{Two, highest, estimate_by_singles, estimate_by_pairs, share_at}
-use Rattle.tables.specs.Settling.{singles, pairs, Step, via}
-use Rattle.tables.proofs.Decisions.{decides_and, decides_test, decides_every}
-use Rattle.tables.proofs.OneFact.{singles_shape, singles_tops, single_own}
+use Rattle.tables.specs.Laid.{Known}
+use Rattle.tables.specs.Nets.{singles, pairs, every}
+use Rattle.tables.specs.Settling.{Step, via}
+use Rattle.tables.proofs.Decisions.{decides_test, decides_every}
+use Rattle.tables.proofs.OneFact.{below, singles_shape, singles_tops, single_own}
 use Rattle.tables.proofs.Order.{LawsOf}
-use Rattle.tables.proofs.Solutions.{Known, nil_start, closed_all, greatest}
+use Rattle.tables.proofs.Solutions.{nil_start, closed_all, greatest}
 use Rattle.tables.proofs.Soundness.{sound}
-use Rattle.tables.proofs.TwoFacts.{pairs_shape, pairs_tops, pair_rules, pair_own}
+use Rattle.tables.proofs.TwoFacts.{in_table, pairs_shape, pairs_tops, pairs_agree, pair_own}
 use Rattle.theory.specs.Tasks.{set_of}
 use Rattle.worked.proofs.Rounds.{Layout, round, round_sure, allowed, all_allowed}
 
-pub decides_below : (m n : ℕ) → Decides (ltb m n) (m < n)
-decides_below m n = ((λ e. ltb-true m n e), λ l. lt-ltb m n l)
-
 module _ {V : Type 0} {tally : Ghosts V} (laws : LawsOf tally) (b : Setting) where
-  unfoldable pub by_singles : Layout (singles tally b) 1
+  unfoldable pub by_singles : Layout tally (singles tally b)
   by_singles = record {
     laws = laws;
     tops = singles_tops laws b;
     shape = singles_shape laws b;
     set_at = λ p. set_of (2 ^ p);
     named = λ p. record { has_one = λ f. bit_power p f };
-    present = λ p. ltb p b.facts;
-    present_is = λ p. decides_below p b.facts;
-    begins = λ p. ltb p b.facts && has b.start p;
-    begins_is = λ p. decides_and (ltb p b.facts) (has b.start p) (decides_below p b.facts) (decides_test (has b.start p));
   }
 
   -- whether round i leaves no place above what the moves allow it
@@ -57,12 +51,12 @@ module _ {V : Type 0} {tally : Ghosts V} (laws : LawsOf tally) (b : Setting) whe
   unfolding every singles_rest singles_at
   singles_greatest known i low =
       let val = round by_singles i in
-      greatest (singles tally b) 1 laws (singles_tops laws b) (singles_shape laws b) known val (round_sure by_singles i)
-      (all_allowed by_singles val ((decides_every (λ p. not_above tally.at_most (val p) (allowed by_singles val p b.moves))
-      (λ p. decides_test (not_above tally.at_most (val p) (allowed by_singles val p b.moves))) b.facts).0 low))
+      greatest (singles tally b) laws (singles_tops laws b) (singles_shape laws b) known val (round_sure by_singles i)
+      (all_allowed by_singles val (λ k l. (decides_every (λ p. not_above tally.at_most (val p) (allowed by_singles val p b.moves))
+      (λ p. decides_test (not_above tally.at_most (val p) (allowed by_singles val p b.moves))) b.facts).0 low k (below b.facts k l)))
       (single_own laws b val)
 
-  unfoldable pub by_pairs : Layout (pairs tally b) 2
+  unfoldable pub by_pairs : Layout tally (pairs tally b)
   by_pairs = record {
     laws = laws;
     tops = pairs_tops laws b;
@@ -71,12 +65,6 @@ module _ {V : Type 0} {tally : Ghosts V} (laws : LawsOf tally) (b : Setting) whe
     named = λ k. record {
       has_two = λ f. has_union (set_of (2 ^ k.0)) (set_of (2 ^ k.1)) f ∙ ap (λ x. x || bit (2 ^ k.1) f) (bit_power k.0 f) ∙ ap (λ x. eqb f k.0 || x) (bit_power k.1 f);
     };
-    present = λ k. ltb k.0 b.facts && ltb k.1 b.facts;
-    present_is = λ k. decides_and (ltb k.0 b.facts) (ltb k.1 b.facts) (decides_below k.0 b.facts) (decides_below k.1 b.facts);
-    begins = λ k. (ltb k.0 b.facts && ltb k.1 b.facts) && (has b.start k.0 && has b.start k.1);
-    begins_is = λ k. decides_and (ltb k.0 b.facts && ltb k.1 b.facts) (has b.start k.0 && has b.start k.1)
-        (decides_and (ltb k.0 b.facts) (ltb k.1 b.facts) (decides_below k.0 b.facts) (decides_below k.1 b.facts))
-        (decides_and (has b.start k.0) (has b.start k.1) (decides_test (has b.start k.0)) (decides_test (has b.start k.1)));
   }
 
   unfoldable pub pairs_rest : ℕ → Bool
@@ -89,22 +77,22 @@ module _ {V : Type 0} {tally : Ghosts V} (laws : LawsOf tally) (b : Setting) whe
   pairs_at i s = estimate_by_pairs tally (round by_pairs i) s
 
   pairs_closed : (i : ℕ) → pairs_rest i ≡ true → (j : ℕ) (m : Move) (k : Two) (t : FactSet) → Step (pairs tally b) j m k t
-      → NotAbove tally (round by_pairs i k) (via (pairs tally b) m (round by_pairs i) t)
+      → NotAbove tally (round by_pairs i k) (via tally (pairs tally b) m (round by_pairs i) t)
   unfolding by_pairs every pairs_rest
   pairs_closed i low =
       let test : Two → Bool = λ k. not_above tally.at_most (round by_pairs i k) (allowed by_pairs (round by_pairs i) k b.moves) in
       all_allowed by_pairs (round by_pairs i) (λ k l.
       (decides_every (λ p. every b.facts (λ q. test (p, q))) (λ p. decides_every (λ q. test (p, q)) (λ q. decides_test (test (p, q))) b.facts) b.facts).0 low
-      k.0 l.0 k.1 l.1)
+      k.0 (in_table b.facts k l).0 k.1 (in_table b.facts k l).1)
 
   pub pairs_greatest : Known b → (i : ℕ) → pairs_rest i ≡ true → Greatest tally b 2 (pairs_at i)
   unfolding pairs_at
   pairs_greatest known i low =
       let val = round by_pairs i in
       let closed = pairs_closed i low in
-      let rules = pair_rules laws b known val (round_sure by_pairs i) closed in
-      greatest (pairs tally b) 2 laws (pairs_tops laws b) (pairs_shape laws b) known val (round_sure by_pairs i) closed
-      (pair_own laws b val rules.single rules.turned)
+      let agree = pairs_agree laws b known val (round_sure by_pairs i) closed in
+      greatest (pairs tally b) laws (pairs_tops laws b) (pairs_shape laws b) known val (round_sure by_pairs i) closed
+      (pair_own laws b val agree)
 
   -- and so a bound
   pub pairs_sound : Known b → (i : ℕ) → pairs_rest i ≡ true → (t : Task) → b.start ≡ start_of t → b.moves ≡ moves_of t
@@ -113,6 +101,6 @@ module _ {V : Type 0} {tally : Ghosts V} (laws : LawsOf tally) (b : Setting) whe
   pairs_sound known i low t start moves =
       let val = round by_pairs i in
       let closed = pairs_closed i low in
-      sound (pairs tally b) 2 laws (pairs_tops laws b) (pairs_shape laws b) val
-      (nil_start (pairs tally b) 2 laws (pairs_tops laws b) (pairs_shape laws b) known val (round_sure by_pairs i) closed)
-      (closed_all (pairs tally b) 2 laws (pairs_tops laws b) (pairs_shape laws b) known val (round_sure by_pairs i) closed) t start moves
+      sound (pairs tally b) laws (pairs_tops laws b) (pairs_shape laws b) val
+      (nil_start (pairs tally b) laws (pairs_tops laws b) (pairs_shape laws b) known val (round_sure by_pairs i) closed)
+      (closed_all (pairs tally b) laws (pairs_tops laws b) (pairs_shape laws b) known val (round_sure by_pairs i) closed) t start moves

@@ -18,7 +18,7 @@ use Rattle.tables.specs.Reading.{share_at}
 use Rattle.tables.proofs.Closing.{greatest_is_sole}
 use Rattle.tables.proofs.Order.{LawsOf}
 use Rattle.tables.proofs.Seen.{known}
-use Rattle.tables.proofs.Solutions.{Known}
+use Rattle.tables.specs.Laid.{Known}
 use Rattle.worked.specs.Cases.{Gives}
 use Rattle.worked.specs.Costs.{minutes, worst}
 use Rattle.worked.specs.Lending.{every_group, only_group, Table}

@@ -8,4 +8,4 @@ use Rattle.solutions.proofs.finding.search.Goals as goal
 pub search_by-requires : goal.search_by-requires
 search_by-requires c =
     let blank : List (Estimate Minutes) = replicate 4096 None in
-    worked_out c.args.task 255 blank c.work_out_pair.new.table (length-replicate {A = Estimate Minutes} 4096 None) c.work_out_pair.result c.work_out_pair.ensures
+    worked_out c.args.task 255 blank c.work_out.new.table (length-replicate {A = Estimate Minutes} 4096 None) c.work_out.result c.work_out.ensures

@@ -1,5 +1,5 @@
 use Rattle.std.proofs.Common.{◌≡◌, length, refl, rules}
-use Rattle.tables.specs.Fitting.{setting_in}
+use Rattle.tables.specs.Origins.{setting_in}
 use Rattle.solutions.proofs.Bounding.{seen, useful}
 use Rattle.solutions.proofs.Asking.{asks, found, always_found}
 use Rattle.solutions.proofs.finding.search_by.Goals as goal
@@ -8,8 +8,8 @@ pub unreachable-requires : goal.unreachable-requires
 unreachable-requires c =
     let long : length c.args.list.now ≡ 1024 = search rules in
     let t = c.args.task in
-    let b = setting_in c.of-bound.result.origin in
-    let pairs = c.of-bound.result.table.now in
+    let b = setting_in c.of-bound.result.places.origin in
+    let pairs = c.of-bound.result.places.table.now in
     let u = useful t 255 c.args.pairs.now c.requires b pairs c.of-bound.ensures.0 c.of-bound.ensures.1 in
     let asked = asks t (seen b pairs t) _ _ c.queue.new.replies c.args.list.now c.queue.new.list c.queue.result.held u long refl c.queue.ensures in
     always_found asked c.index-told-0.result c.in_default.not-Ran
@@ -18,8 +18,8 @@ pub returns : goal.returns
 returns c =
     let long : length c.args.list.now ≡ 1024 = search rules in
     let t = c.args.task in
-    let b = setting_in c.of-bound.result.origin in
-    let pairs = c.of-bound.result.table.now in
+    let b = setting_in c.of-bound.result.places.origin in
+    let pairs = c.of-bound.result.places.table.now in
     let u = useful t 255 c.args.pairs.now c.requires b pairs c.of-bound.ensures.0 c.of-bound.ensures.1 in
     let asked = asks t (seen b pairs t) _ _ c.queue.new.replies c.args.list.now c.queue.new.list c.queue.result.held u long refl c.queue.ensures in
     found asked c.index-told-0.result c.in-Ran.reply c.in-Ran.is
