@@ -19,15 +19,7 @@ pub fn write<V: Tally>(table: &mut [Record<V>], number: u16, new: Record<V>)
     requires { number < length table.old }
     ensures { table.new ≡ slice_set table.old number new }
 {
-    write_at(table, usize::from(number), new);
-}
-
-// A place that is worked out where it is written to is not covered for every kind of cost, so it comes in ready.
-fn write_at<V: Tally>(table: &mut [Record<V>], place: usize, new: Record<V>)
-    requires { place < length table.old }
-    ensures { table.new ≡ slice_set table.old place new }
-{
-    table[place] = new;
+    table[usize::from(number)] = new;
 }
 
 // Marks a record as shut.

@@ -3,7 +3,6 @@ ghost use Rattle.std.specs.Prelude.{◌≡◌, ◌≤◌, length, take, MatchOpt
 ghost use Rattle.theory.specs.Records.{NoneWaits};
 ghost use Rattle.records.specs.Choice.{is_before, better_of, IsChosen};
 
-use crate::cells::read;
 use crate::numbered::Numbered;
 use costs::Tally;
 use theory::{Mark, Record};
@@ -14,9 +13,14 @@ pub fn choice<V: Tally>(table: &[Record<V>], count: u16) -> Option<Numbered<V>>
     ensures { MatchOption result (NoneWaits (take count table.now)) (IsChosen V.Tally (take count table.now)) }
 {
     let mut best = None;
-    for number in 0..count {
-        let row = read(table, number);
-        best = better(best, Numbered { number, row });
+    for (number, row) in table[..usize::from(count)].iter().enumerate() {
+        best = better(
+            best,
+            Numbered {
+                number: number as u16,
+                row: *row,
+            },
+        );
     }
     best
 }

@@ -1,9 +1,8 @@
 // The record of a set. Nothing else looks through the sets of the records, so an index may go behind it.
-ghost use Rattle.std.specs.Prelude.{◌≡◌, ◌≤◌, length, take, Decides, MatchOption};
+ghost use Rattle.std.specs.Prelude.{◌≤◌, length, take, MatchOption};
 ghost use Rattle.theory.specs.Openings.{Unrecorded};
 ghost use Rattle.records.specs.Tables.{IsRecorded};
 
-use crate::cells::read;
 use costs::Tally;
 use facts::FactSet;
 use theory::Record;
@@ -13,16 +12,7 @@ pub fn record_of<V: Tally>(table: &[Record<V>], count: u16, set: FactSet) -> Opt
     requires { count ≤ length table.now }
     ensures { MatchOption result (Unrecorded (take count table.now) set) (IsRecorded (take count table.now) set) }
 {
-    for number in 0..count {
-        if is_same(read(table, number).set, set) {
-            return Some(number);
-        }
-    }
-    None
-}
-
-fn is_same(one: FactSet, other: FactSet) -> bool
-    ensures { Decides result (one ≡ other) }
-{
-    one == other
+    let rows = &table[..usize::from(count)];
+    let number = rows.iter().position(|row| row.set == set)?;
+    Some(number as u16)
 }

@@ -1,24 +1,20 @@
-use Rattle.std.proofs.Common.{◌≡◌, take, sym, refl, subst, arith}
-use Rattle.facts.proofs.Tests.{not_true_false}
+use Rattle.std.proofs.Common.{take, refl, rules}
+use Rattle.std.proofs.lemmas.Iterator.{IsFirst-from_position, YieldsList-from_slice}
 use Rattle.theory.specs.Openings.{Unrecorded}
-use Rattle.records.proofs.Picks.{unrecorded_more}
-use Rattle.records.proofs.Places.{at_take, take_next}
+use borrow.Author.Tests.{tests}
+use Rattle.records.proofs.Picks.{Of, NotOf, none_recorded, one_recorded}
 use Rattle.records.proofs.finding.record_of.Goals as goal
 
-pub loop-number-init : goal.loop-number-init
-loop-number-init g c = λ j q f. elim f.at [ ]
-
-pub loop-number-preserved : goal.loop-number-preserved
-loop-number-preserved g c =
-    subst (λ recs. Unrecorded recs c.args.set) (sym (take_next c.read.ensures))
-    (unrecorded_more (take c.loop-number.number c.args.table.now) c.read.result c.args.set c.loop-number.invariant
-    (λ e. not_true_false (c.if-is_same.ensures.1 e)))
-
-pub returns-then-is_same : goal.returns-then-is_same
-returns-then-is_same g c =
-    (c.read.result, record { at = at_take c.args.count c.read.ensures c.loop-number-test.true; same = c.if-is_same.ensures.0 refl })
+pub returns-in_err-number : goal.returns-in_err-number
+returns-in_err-number g c =
+    let recs = take c.args.count c.args.table.now in
+    let none : Unrecorded recs c.args.set = none_recorded recs c.args.set (IsFirst-from_position _ _ _ (Of recs c.args.set) (NotOf recs c.args.set) c.in_err-number.ensures.ran
+    (YieldsList-from_slice recs (search rules)) (λ x q k. search (rules, tests)) (λ x q k. search (rules, tests))) in
+    rw c.from_residual.ensures none
 
 pub returns : goal.returns
 returns g c =
-    let same : c.loop-number.number ≡ c.args.count = omega (arith, c.loop-number-test.false, c.loop-number.auto.number-end) in
-    subst (λ n. Unrecorded (take n c.args.table.now) c.args.set) same c.loop-number.invariant
+    let recs = take c.args.count c.args.table.now in
+    let first = IsFirst-from_position _ _ _ (Of recs c.args.set) (NotOf recs c.args.set) c.in_ok-number.ensures.ran
+    (YieldsList-from_slice recs (search rules)) (λ x q k. search (rules, tests)) (λ x q k. search (rules, tests)) in
+    one_recorded recs c.args.set first.0 first.1
