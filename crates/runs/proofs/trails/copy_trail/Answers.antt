@@ -1,24 +1,30 @@
-use Rattle.std.proofs.Common.{length, ap, arith}
-use Rattle.records.proofs.Places.{at_take, take_length}
-use Rattle.runs.proofs.Trailing.{copied_none, copied_more, copied_all, trail_zero, trail_less}
+use Rattle.std.proofs.Common.{take, length, Some, sym, refl, ap, ◌∙◌, subst, arith}
+use Rattle.std.proofs.lemmas.List.{set-get_or}
+use Rattle.theory.specs.Runs.{Trail}
+use Rattle.runs.specs.Trails.{Steps}
+use Rattle.runs.proofs.Trailing.{copied_none, copied_more, copied_all, way_done}
 use Rattle.runs.proofs.trails.copy_trail.Goals as goal
 
-pub loop-at-init : goal.loop-at-init
-loop-at-init g c = copied_none _ _
+pub loop-place-init : goal.loop-place-init
+loop-place-init g c = (refl, omega (arith, c.take-trail.ensures.count), copied_none _ _)
 
-pub loop-at-preserved : goal.loop-at-preserved
-loop-at-preserved g c =
-    copied_more _ _ c.loop-at.list c.put.ensures (omega (arith, c.if-steps-list.true, c.loop-at.auto.list)) c.loop-at-test.true
-    (at_take c.args.count c.read-row.ensures c.if-at-count.true) c.loop-at.invariant
+pub loop-place-preserved : goal.loop-place-preserved
+loop-place-preserved g c =
+    let inv = c.loop-place.invariant in
+    let step = c.in-Some.ensures.steps in
+    let here = subst (λ r. Steps r c.loop-place.trail.iter.at (Some c.in-Some.via) c.next.new.self.iter.at) inv.0 step.0.1 in
+    (step.0.0 ∙ inv.0, omega (arith, inv.1, step.1),
+    copied_more _ _ c.loop-place.list (omega (arith, c.loop-place-test.true, c.loop-place.auto.list)) here inv.2)
 
-pub returns-else-steps-list : goal.returns-else-steps-list
-returns-else-steps-list g c l t h =
-    copied_all _ _ c.loop-at.list c.loop-at.invariant l t (λ rest u sum. omega (arith, h, sum, c.if-steps-list.false, c.loop-at.auto.list))
+pub returns-in_default : goal.returns-in_default
+returns-in_default g c l t h =
+    let inv = c.loop-place.invariant in
+    let step = c.in_default.ensures.steps (omega (arith, inv.1, c.loop-place-test.true)) in
+    let way = subst (λ w. Trail w.rows.now w.at l) (sym c.take-trail.ensures.source) (subst (λ n. Trail (take n c.args.table.now) c.args.from l) (sym c.from.ensures) t) in
+    set-get_or c.loop-place.list c.loop-place.place-index 0 ∙ copied_all _ _ c.loop-place.list inv.2 l way
+    (λ rest u sum. ap length (way_done (subst (λ r. Trail r c.loop-place.trail.iter.at rest) (sym inv.0) u) step.1))
 
-pub returns-else-at-count : goal.returns-else-at-count
-returns-else-at-count g c l t h =
-    let size = take_length c.args.table.now c.args.count c.requires in
-    copied_all _ _ c.loop-at.list c.loop-at.invariant l t (λ rest u sum. absurd (omega (arith, trail_less u c.loop-at-test.true, size, c.if-at-count.false)))
-
-pub returns-after-loop-at : goal.returns-after-loop-at
-returns-after-loop-at g c l t h = copied_all _ _ c.loop-at.list c.loop-at.invariant l t (λ rest u sum. ap length (trail_zero u c.loop-at-test.false))
+pub returns : goal.returns
+returns g c l t h =
+    let way = subst (λ w. Trail w.rows.now w.at l) (sym c.take-trail.ensures.source) (subst (λ n. Trail (take n c.args.table.now) c.args.from l) (sym c.from.ensures) t) in
+    copied_all _ _ c.loop-place.list c.loop-place.invariant.2 l way (λ rest u sum. omega (arith, h, sum, c.loop-place-test.false, c.loop-place.auto.list))

@@ -1,9 +1,8 @@
-use Rattle.std.proofs.Common.{◌-◌, length, take}
+use Rattle.std.proofs.Common.{◌≡◌, ◌+◌, length}
 use Rattle.runs.proofs.Trailing.{Copied}
 use Rattle.runs.proofs.trails.copy_trail.Given as goal
 
-abbrev pub invariant-loop-at : goal.invariant-loop-at
-invariant-loop-at g l = Copied (take l.count l.table) l.from l.at l.initial.list l.list l.steps
-
-abbrev pub decreases-loop-at : goal.decreases-loop-at
-decreases-loop-at g l = length l.initial.list - l.steps
+abbrev pub invariant-loop-place : goal.invariant-loop-place
+invariant-loop-place g l =
+    (l.trail.iter.rows.now ≡ l.initial.trail.iter.rows.now) × (l.trail.n + l.place-index ≡ length l.initial.list)
+    × Copied l.initial.trail.iter.rows.now l.initial.trail.iter.at l.trail.iter.at l.initial.list l.list l.place-index
