@@ -1,5 +1,5 @@
 -- Calls one after another: what stays, and what is noted.
-use Rattle.std.proofs.Common.{◌≡◌, ℕ, ◌+◌, ◌<◌, ◌≤◌, List, [], ◌∷◌, length, set, Ok, Err, Result, sym, refl, ap, ◌∙◌, subst, subst₂, add-one, arith}
+use Rattle.std.proofs.Common.{◌≡◌, ℕ, ◌+◌, ◌<◌, ◌≤◌, min, List, [], ◌∷◌, length, set, Ok, Err, Result, sym, refl, ap, ◌∙◌, subst, subst₂, add-one, arith}
 use Rattle.std.proofs.lemmas.List.{length-set, drop-set-lt}
 use Rattle.tasks.specs.Places.{At}
 use Rattle.tasks.specs.Tasks.{Checked}
@@ -15,7 +15,7 @@ use Rattle.records.proofs.Steps.{drop_further}
 use Rattle.search.specs.Calls.{Answered, answer_of, RunAnswered}
 use Rattle.search.specs.States.{table_of, state_of, problem_in}
 use Rattle.search.specs.declared.held.Held.{Held}
-use Rattle.queues.specs.Calls.{call_of, told_of, written_by, Reply, Stays, Replied, ReadFront, at_first, and_then, Log, blank, entry, Book, Noted}
+use Rattle.queues.specs.Calls.{call_of, told_of, written_by, Reply, Stays, Replied, ReadFront, at_first, and_then, Log, blank, entry, Book, Noted, Serves}
 use Rattle.queues.specs.declared.calls.Call.{Call}
 use Rattle.queues.specs.declared.calls.Call.TheVariants.{Run, ReadOut}
 use Rattle.queues.specs.declared.calls.Told.{Told}
@@ -119,3 +119,14 @@ module _ {V : Type 0} (tally : Ghosts V) (lent : Task → Lent V) (calls : List 
           subst (λ p. Answers (problem_in tally h made) (state_of mid) (call_of (lent h.task) p call) new.answer (state_of later)) long
           (subst₂ (λ t n. Answers {tally = tally} (record { task = t; bound = made; room = n }) (state_of mid) (call_of (lent t) (length list) call) new.answer (state_of later))
           stays.task stays.rest.size (new.answered made))
+
+-- the calls made are all, or as many as there are places for their replies
+pub all_served : {V : Type 0} (tally : Ghosts V) (lent : Task → Lent V) {calls : List Call} {told told' now : List (Told V)} (list : List ℕ) {list' : List ℕ} (h : Held V) {later : Held V} {n : ℕ}
+    → n ≡ min (length calls) (length told) → now ≡ told' → Stays h later → Noted n told told' → (Checked h.task → Noting tally lent calls list h n told' list' later)
+    → Serves tally (lent h.task) calls told now list list' h later
+all_served tally lent {calls = calls} {told = told} {told' = told'} list {list' = list'} h {later = later} all same stays noted book =
+    subst (λ now. Serves tally (lent h.task) calls told now list list' h later) (sym same) (record {
+      stays = stays;
+      noted = subst (λ k. Noted k told told') all noted;
+      book = λ checked. subst (λ k. Noting tally lent calls list h k told' list' later) all (book checked);
+    })

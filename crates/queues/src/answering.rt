@@ -1,5 +1,5 @@
 // The calls of a queue, one after another.
-ghost use Rattle.std.specs.Prelude.{◌≡◌, ◌<◌, length, slice_set};
+ghost use Rattle.std.specs.Prelude.{◌≡◌};
 ghost use Rattle.tasks.specs.Tasks.{Checked};
 ghost use Rattle.records.specs.Openings.{lent_of};
 ghost use Rattle.queues.specs.Calls.{Replied, ReadFront, Serves};
@@ -21,10 +21,11 @@ pub fn answer_all<V: Tally, B: Bound<Value = V>>(
     ensures served { Serves V.Tally (lent_of B.Bound search.old.held.task bound.now) calls.now replies.old replies.new list.old list.new search.old.held search.new.held }
     ensures lent { search.new.held.table.ghost_name ≡ search.old.held.table.ghost_name }
 {
-    let count = calls.len().min(replies.len());
-    for i in 0..count {
-        let told = answer(search, bound, calls[i], list);
-        note(replies, i, told);
+    for (i, told) in replies.iter_mut().enumerate() {
+        let Some(call) = calls.get(i) else {
+            return;
+        };
+        *told = answer(search, bound, *call, list);
     }
 }
 
@@ -60,12 +61,4 @@ fn read_front<V: Tally>(
 {
     let places = room.min(list.len());
     search.read_out(&mut list[0..places])
-}
-
-// Writes an answer into its place.
-fn note<V: Tally>(replies: &mut [Told<V>], place: usize, told: Told<V>)
-    requires { place < length replies.old }
-    ensures { replies.new ≡ slice_set replies.old place told }
-{
-    replies[place] = told;
 }

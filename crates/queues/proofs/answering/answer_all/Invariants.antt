@@ -1,4 +1,4 @@
-use Rattle.std.proofs.Common.{◌≡◌}
+use Rattle.std.proofs.Common.{◌≡◌, ◌≤◌, length}
 use Rattle.tasks.specs.Tasks.{Checked}
 use Rattle.records.specs.Openings.{lent_of}
 use Rattle.queues.specs.Calls.{Stays, Noted}
@@ -6,8 +6,10 @@ use Rattle.queues.proofs.Booking.{Noting}
 use Rattle.queues.proofs.answering.answer_all.Given as goal
 
 abbrev pub invariant-loop-i : goal.invariant-loop-i
-invariant-loop-i g l =
-    Stays l.initial.search.held l.search.held × Noted l.i l.initial.replies l.replies
-    × (Checked l.initial.search.held.task
-    → Noting g.V.Tally (λ t. lent_of g.B.Bound t l.bound) l.calls l.initial.list l.initial.search.held l.i l.replies l.list l.search.held)
-    × (l.search.held.table.ghost_name ≡ l.initial.search.held.table.ghost_name)
+invariant-loop-i g l = record {
+  few : l.i ≤ length l.calls;
+  stays : Stays l.initial.search.held l.search.held;
+  noted : Noted l.i l.initial.replies l.replies;
+  book : Checked l.initial.search.held.task → Noting g.V.Tally (λ t. lent_of g.B.Bound t l.bound) l.calls l.initial.list l.initial.search.held l.i l.replies l.list l.search.held;
+  lent : l.search.held.table.ghost_name ≡ l.initial.search.held.table.ghost_name;
+}
