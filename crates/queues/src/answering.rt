@@ -15,7 +15,7 @@ pub fn answer_all<V: Tally, B: Bound<Value = V>>(
     search: &mut Search<'_, '_, V>,
     bound: &B,
     calls: &[Call],
-    replies: &mut [Told<V>],
+    replies: &mut [Result<Told<V>, Refusal>],
     list: &mut [u16],
 )
     ensures served { Serves V.Tally (lent_of B.Bound search.old.held.task bound.now) calls.now replies.old replies.new list.old list.new search.old.held search.new.held }
@@ -35,19 +35,19 @@ fn answer<V: Tally, B: Bound<Value = V>>(
     bound: &B,
     call: Call,
     list: &mut [u16],
-) -> Told<V>
+) -> Result<Told<V>, Refusal>
     ensures replied { Replied V.Tally (lent_of B.Bound search.old.held.task bound.now) call list.old list.new search.old.held search.new.held result }
     ensures lent { search.new.held.table.ghost_name ≡ search.old.held.table.ghost_name }
 {
     match call {
-        Call::Run(grant) => match search.run(bound, grant) {
-            Ok(reply) => Told::Ran(reply),
-            Err(why) => Told::Refused(why),
-        },
-        Call::ReadOut(room) => match read_front(search, room, list) {
-            Ok(length) => Told::Read(length),
-            Err(why) => Told::Refused(why),
-        },
+        Call::Run(grant) => {
+            let reply = search.run(bound, grant)?;
+            Ok(Told::Ran(reply))
+        }
+        Call::ReadOut(room) => {
+            let length = read_front(search, room, list)?;
+            Ok(Told::Read(length))
+        }
     }
 }
 

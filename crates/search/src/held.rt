@@ -10,6 +10,6 @@ pub struct Held<'a, 't, V> {
     pub room: u16,
     // how it has ended, with the number of the record that tells the cost or the floor
     pub end: End,
-    // why it could not be made; every later call is refused with the same number
-    pub kept: Option<Refusal>,
+    // why it could not be made, if so; every later call is refused with the same number
+    pub made: Result<(), Refusal>,
 }

@@ -6,7 +6,7 @@ ghost use Rattle.search.specs.Calls.{Made, RunAnswered, ReadAnswered};
 ghost use Rattle.search.specs.Parts.{Fit};
 
 use crate::held::Held;
-use crate::testing::{goal_record, turned_down, unusable, write_first};
+use crate::testing::{goal_record, judged, sized_up, write_first};
 use bounds::Bound;
 use costs::{Estimate, Tally};
 use runs::{copy_trail, run, trail_length};
@@ -24,15 +24,15 @@ pub fn hold<'a, 't, V: Tally, B: Bound<Value = V>>(
 {
     let end = End::Going;
     let places = table.len();
-    let kept = turned_down(&task, bound, places);
-    if let Some(_) = kept {
+    let made = sized_up(&task, bound, places);
+    if let Err(_) = made {
         return Held {
             task,
             table,
             count: 0,
             room: 0,
             end,
-            kept,
+            made,
         };
     }
     let room = places as u16;
@@ -43,7 +43,7 @@ pub fn hold<'a, 't, V: Tally, B: Bound<Value = V>>(
             count: 0,
             room,
             end,
-            kept,
+            made,
         };
     };
     write_first(table, goal_record(task.goal(), promise));
@@ -53,7 +53,7 @@ pub fn hold<'a, 't, V: Tally, B: Bound<Value = V>>(
         count: 1,
         room,
         end,
-        kept,
+        made,
     }
 }
 
@@ -64,16 +64,12 @@ impl<'a, 't, V: Tally> Held<'a, 't, V> {
         ensures ran { RunAnswered V.Tally (lent_of B.Bound self.old.task bound.now) grant self.old self.new result }
         ensures lent { self.new.table.ghost_name ≡ self.old.table.ghost_name }
     {
-        if let Some(why) = self.kept {
-            return Err(why);
-        }
+        self.made?;
         if grant > 65536 {
             return Err(Refusal::GrantTooLarge);
         }
         let task = self.task;
-        if let Some(why) = unusable(&task, bound) {
-            return Err(why);
-        }
+        judged(&task, bound)?;
         let count = self.count;
         let room = self.room;
         let end = self.end;
@@ -87,9 +83,7 @@ impl<'a, 't, V: Tally> Held<'a, 't, V> {
         requires { Fit self.now }
         ensures { Checked self.now.task → ReadAnswered V.Tally self.now list.old list.new result }
     {
-        if let Some(why) = self.kept {
-            return Err(why);
-        }
+        self.made?;
         let End::Planned(number) = self.end else {
             return Err(Refusal::NotPlanned);
         };
@@ -112,7 +106,7 @@ impl<'a, 't, V: Tally> Held<'a, 't, V> {
             count: _,
             room: _,
             end: _,
-            kept: _,
+            made: _,
         } = self;
         table
     }

@@ -10,31 +10,31 @@ use facts::FactSet;
 use tasks::Task;
 use theory::{Mark, Record, Refusal};
 
-// Why the bound cannot be used on the task, if it cannot.
-pub fn unusable<V: Tally, B: Bound<Value = V>>(task: &Task<'_>, bound: &B) -> Option<Refusal>
+// That the bound can be used on the task, or why not.
+pub fn judged<V: Tally, B: Bound<Value = V>>(task: &Task<'_>, bound: &B) -> Result<(), Refusal>
     ensures { Judged V.Tally task.now (lent_of B.Bound task.now bound.now) result }
 {
     if !bound.fits(task) {
-        return Some(Refusal::Misfit);
+        return Err(Refusal::Misfit);
     }
     if is_overdrawn(bound, task) {
-        return Some(Refusal::Overdrawn);
+        return Err(Refusal::Overdrawn);
     }
-    None
+    Ok(())
 }
 
-// Why a search cannot be made over a table of so many places, if it cannot.
-pub fn turned_down<V: Tally, B: Bound<Value = V>>(
+// That a search can be made over a table of so many places, or why not.
+pub fn sized_up<V: Tally, B: Bound<Value = V>>(
     task: &Task<'_>,
     bound: &B,
     places: usize,
-) -> Option<Refusal>
+) -> Result<(), Refusal>
     ensures sized { SizedUp V.Tally task.now (lent_of B.Bound task.now bound.now) places result }
     ensures sound { SoundOn V.Tally task.now (lent_of B.Bound task.now bound.now) }
 {
-    let judged = unusable(task, bound);
+    let judged = judged(task, bound);
     if places == 0 || places > 65535 {
-        return Some(Refusal::TableSize);
+        return Err(Refusal::TableSize);
     }
     judged
 }

@@ -8,15 +8,15 @@ use Rattle.search.proofs.Making.{no_threads, one_thread, first_place, is_roomy, 
 use Rattle.search.proofs.Answering.{past_count, untouched}
 use Rattle.search.proofs.holding.hold.Goals as goal
 
-pub returns-in-Some : goal.returns-in-Some
-returns-in-Some g c =
+pub returns-in-Err : goal.returns-in-Err
+returns-in-Err g c =
     let P = problem_of g.V.Tally g.B.Bound c.args.task c.args.bound.now (length c.args.table.now) in
     record {
-      fit = record { counted = omega arith; fits = omega arith; whole = λ e. impossible (cc c.in-Some.is); inside = tt; traced = λ checked. ∣ no_threads ∣₁ };
+      fit = record { counted = omega arith; fits = omega arith; whole = λ e. impossible (cc c.in-Err.is); inside = tt; traced = λ checked. ∣ no_threads ∣₁ };
       made = record {
         task = refl;
-        honest = λ checked. record { checked = checked; sound = c.turned_down-kept.ensures.sound };
-        makes = is_refused P c.turned_down-kept.ensures.sized _ _ c.in-Some.is;
+        honest = λ checked. record { checked = checked; sound = c.sized_up-made.ensures.sound };
+        makes = is_refused P c.sized_up-made.ensures.sized _ _ c.in-Err.is;
         rest = untouched;
       };
     }
@@ -24,7 +24,7 @@ returns-in-Some g c =
 pub overflow_cast-room : goal.overflow_cast-room
 overflow_cast-room g c =
     let P = problem_of g.V.Tally g.B.Bound c.args.task c.args.bound.now (length c.args.table.now) in
-    omega (arith, (is_roomy P c.turned_down-kept.ensures.sized c.in_default.is).few)
+    omega (arith, (is_roomy P c.sized_up-made.ensures.sized c.in_default.is).few)
 
 pub returns-in_default-estimate : goal.returns-in_default-estimate
 returns-in_default-estimate g c =
@@ -34,8 +34,8 @@ returns-in_default-estimate g c =
       fit = record { counted = omega arith; fits = omega arith; whole = λ e. refl; inside = tt; traced = λ checked. ∣ no_threads ∣₁ };
       made = record {
         task = refl;
-        honest = λ checked. record { checked = checked; sound = c.turned_down-kept.ensures.sound };
-        makes = is_hopeless P c.turned_down-kept.ensures.sized c.in_default.is never refl;
+        honest = λ checked. record { checked = checked; sound = c.sized_up-made.ensures.sound };
+        makes = is_hopeless P c.sized_up-made.ensures.sized c.in_default.is never refl;
         rest = untouched;
       };
     }
@@ -43,13 +43,13 @@ returns-in_default-estimate g c =
 pub write_first-requires : goal.write_first-requires
 write_first-requires g c =
     let P = problem_of g.V.Tally g.B.Bound c.args.task c.args.bound.now (length c.args.table.now) in
-    (is_roomy P c.turned_down-kept.ensures.sized c.in_default.is).some
+    (is_roomy P c.sized_up-made.ensures.sized c.in_default.is).some
 
 pub returns : goal.returns
 returns g c =
     let table = c.args.table.now in
     let P = problem_of g.V.Tally g.B.Bound c.args.task c.args.bound.now (length table) in
-    let some : 1 ≤ length table = (is_roomy P c.turned_down-kept.ensures.sized c.in_default.is).some in
+    let some : 1 ≤ length table = (is_roomy P c.sized_up-made.ensures.sized c.in_default.is).some in
     let hope = sym (c.estimate.ensures ∙ ap (λ s. g.B.Bound.estimated c.args.bound.now s) c.goal.ensures) ∙ c.in-Value.is in
     let first = c.goal_record.result in
     let written = c.write_first.ensures in
@@ -65,8 +65,8 @@ returns g c =
       };
       made = record {
         task = refl;
-        honest = λ checked. record { checked = checked; sound = c.turned_down-kept.ensures.sound };
-        makes = is_waiting P c.turned_down-kept.ensures.sized c.in_default.is hope
+        honest = λ checked. record { checked = checked; sound = c.sized_up-made.ensures.sound };
+        makes = is_waiting P c.sized_up-made.ensures.sized c.in_default.is hope
             (recs ∙ ap (λ r. r ∷ []) (c.goal_record.ensures ∙ ap (λ s. record { set = s; spent = g.V.Tally.nil; promise = c.in-Value.promise; parent = 65535; via = 65535; mark = Waiting }) c.goal-2.ensures));
         rest = past_count {count = 1} _ c.in_default.is (omega (arith, size, some))
             (record { size = size; rest = ap (drop 1) written ∙ drop-set-lt 1 table 0 first (omega arith) });

@@ -1,7 +1,7 @@
-use Rattle.std.proofs.Common.{refl}
+use Rattle.std.proofs.Common.{Ok, refl, ap, ◌∙◌}
 use Rattle.tables.specs.Fitting.{setting_in}
 use Rattle.solutions.proofs.Bounding.{seen, useful}
-use Rattle.solutions.proofs.Asking.{asks, found, always_found}
+use Rattle.solutions.proofs.Asking.{asks, found, always_found, not_read}
 use Rattle.solutions.proofs.finding.search_by.Goals as goal
 
 pub unreachable-requires : goal.unreachable-requires
@@ -11,7 +11,16 @@ unreachable-requires c =
     let pairs = c.of-bound.result.table.now in
     let u = useful t 255 c.args.pairs.now c.requires.worked b pairs c.of-bound.ensures.0 c.of-bound.ensures.1 in
     let asked = asks t (seen b pairs t) _ _ c.queue.new.replies c.args.list.now c.queue.new.list c.queue.result.held u c.requires.room refl (c.queue.ensures c.requires.checked) in
-    always_found asked c.index-told-0.result c.in_default.not-Ran
+    always_found asked c.index-told-0.result (λ r e. c.in_default.not-Ok _ e)
+
+pub unreachable-requires-in-Read : goal.unreachable-requires-in-Read
+unreachable-requires-in-Read c =
+    let t = c.args.task in
+    let b = setting_in c.of-bound.result.origin in
+    let pairs = c.of-bound.result.table.now in
+    let u = useful t 255 c.args.pairs.now c.requires.worked b pairs c.of-bound.ensures.0 c.of-bound.ensures.1 in
+    let asked = asks t (seen b pairs t) _ _ c.queue.new.replies c.args.list.now c.queue.new.list c.queue.result.held u c.requires.room refl (c.queue.ensures c.requires.checked) in
+    always_found asked c.index-told-0.result (λ r e. not_read c.in-Ok.is c.in-Read.is e)
 
 pub returns : goal.returns
 returns c =
@@ -20,4 +29,4 @@ returns c =
     let pairs = c.of-bound.result.table.now in
     let u = useful t 255 c.args.pairs.now c.requires.worked b pairs c.of-bound.ensures.0 c.of-bound.ensures.1 in
     let asked = asks t (seen b pairs t) _ _ c.queue.new.replies c.args.list.now c.queue.new.list c.queue.result.held u c.requires.room refl (c.queue.ensures c.requires.checked) in
-    found asked c.index-told-0.result c.in-Ran.reply c.in-Ran.is
+    found asked c.index-told-0.result c.in-Ran.reply (c.in-Ok.is ∙ ap Ok c.in-Ran.is)

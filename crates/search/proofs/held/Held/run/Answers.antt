@@ -1,4 +1,5 @@
 use Rattle.std.proofs.Common.{take, sym, refl, ◌∙◌, subst, arith}
+use Rattle.std.proofs.lemmas.Result.{err_from_is_err_and}
 use Rattle.theory.specs.Queue.{grant_too_large, run_refused, RunRefused, runs}
 use Rattle.theory.specs.Runs.{Runs}
 use Rattle.theory.proofs.Handed.{run_by}
@@ -7,32 +8,35 @@ use Rattle.search.specs.States.{problem_in}
 use Rattle.search.proofs.Answering.{keeps_number, by_rules, more_records, past_count, untouched}
 use Rattle.search.proofs.held.Held.run.Goals as goal
 
-pub returns-in-Some : goal.returns-in-Some
-returns-in-Some g c = record {
+pub returns-in_err-self : goal.returns-in_err-self
+returns-in_err-self g c =
+    let p = err_from_is_err_and c.from_residual.result c.from_residual.ensures.1 in
+    rw (p.1, p.2) (record {
   fit = c.requires;
-  ran = record { task = refl; answered = λ checked made. keeps_number _ _ _ c.in-Some.is; grows = omega arith; rest = untouched };
+  ran = record { task = refl; answered = λ checked made. keeps_number _ _ _ c.in_err-self.was; grows = omega arith; rest = untouched };
   lent = refl;
-}
+})
 
 pub returns-then-grant-gt65536 : goal.returns-then-grant-gt65536
 returns-then-grant-gt65536 g c = record {
   fit = c.requires;
-  ran = record { task = refl; answered = λ checked made. by_rules _ c.in_default.is (run_refused (grant_too_large c.if-grant-gt65536.true)); grows = omega arith; rest = untouched };
+  ran = record { task = refl; answered = λ checked made. by_rules _ c.in_ok-self.was (run_refused (grant_too_large c.if-grant-gt65536.true)); grows = omega arith; rest = untouched };
   lent = refl;
 }
 
-pub returns-in-Some-unusable : goal.returns-in-Some-unusable
-returns-in-Some-unusable g c = record {
+pub returns-in_err-judged : goal.returns-in_err-judged
+returns-in_err-judged g c = let p = err_from_is_err_and c.from_residual-in_err-judged.result c.from_residual-in_err-judged.ensures.1 in
+    rw (p.1, p.2) (record {
   fit = c.requires;
   ran = record {
     task = refl;
-    answered = λ checked made. by_rules _ c.in_default.is
-        (run_refused (RunRefused.bad_bound c.if-grant-gt65536.false (c.in-Some-unusable.ensures.tells checked _ refl)));
+    answered = λ checked made. by_rules _ c.in_ok-self.was
+        (run_refused (RunRefused.bad_bound c.if-grant-gt65536.false (c.in_err-judged.ensures.tells checked _ refl)));
     grows = omega arith;
     rest = untouched;
   };
   lent = refl;
-}
+})
 
 pub returns : goal.returns
 returns g c =
@@ -50,14 +54,14 @@ returns g c =
       };
       ran = record {
         task = refl;
-        answered = λ checked made. by_rules _ c.in_default.is
-            (runs c.if-grant-gt65536.false (c.in_default-unusable.ensures.tells checked _ refl)
+        answered = λ checked made. by_rules _ c.in_ok-self.was
+            (runs c.if-grant-gt65536.false (c.in_ok-judged.ensures.tells checked _ refl)
             (run_by (problem_in g.V.Tally s made) lent (record { fits = made.fits; estimate = lent.estimate; share = made.share }) (λ set. refl)
             (subst (λ n. Runs (problem_of g.V.Tally g.B.Bound s.task c.args.bound.now n) c.args.grant (take s.count s.table.now) s.end
             c.run-ran.result.reply (take c.run-ran.result.count c.run-ran.new.table) c.run-ran.result.end)
-            (c.requires.whole c.in_default.is) (c.run-ran.ensures.ran checked (c.requires.traced checked)).runs)));
-        grows = more_records _ _ _ _ c.in_default.is grown.more (omega (arith, grown.fits, c.requires.fits, size));
-        rest = past_count {count = c.run-ran.result.count} _ c.in_default.is (omega (arith, grown.fits, c.requires.fits, size)) grown.untouched;
+            (c.requires.whole c.in_ok-self.was) (c.run-ran.ensures.ran checked (c.requires.traced checked)).runs)));
+        grows = more_records _ _ _ _ c.in_ok-self.was grown.more (omega (arith, grown.fits, c.requires.fits, size));
+        rest = past_count {count = c.run-ran.result.count} _ c.in_ok-self.was (omega (arith, grown.fits, c.requires.fits, size)) grown.untouched;
       };
       lent = refl;
     }

@@ -2,7 +2,7 @@ use Rattle.std.proofs.Common.{sym, refl, ◌∙◌, subst}
 use Rattle.facts.proofs.Tests.{not_true_false}
 use Rattle.theory.specs.Queue.{misfit, overdrawn}
 use Rattle.bounds.specs.Sound.{Overdrawn}
-use Rattle.search.proofs.testing.unusable.Goals as goal
+use Rattle.search.proofs.testing.judged.Goals as goal
 
 pub returns-then-not-fits : goal.returns-then-not-fits
 returns-then-not-fits g c = record {
