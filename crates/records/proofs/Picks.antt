@@ -1,5 +1,6 @@
 -- The record of a set and the choice, among the records looked at so far, one more at a time.
 use Rattle.std.proofs.Common.{◌≡◌, ℕ, ◌+◌, ◌<◌, ◌≤◌, Bool, true, false, cond, ◌⊎◌, List, [], ◌∷◌, ◌++◌, length, take, Some, None, Option, sym, refl, ap, ◌∙◌, subst, subst₂, inl, inr, arith, MatchOption}
+use Rattle.std.proofs.lemmas.List.{length-take-le}
 use Rattle.std.specs.List.{AllWithin, HoldsAt}
 use Rattle.facts.specs.declared.sets.FactSet.{FactSet}
 use Rattle.facts.proofs.Tests.{from_true}
@@ -18,7 +19,7 @@ use Rattle.theory.proofs.Places.{at_some, new, old, add_old, add_new, add_cases}
 use Rattle.records.specs.Choice.{IsChosen, is_before, best_of, better_of}
 use Rattle.records.specs.Tables.{IsRecorded}
 use Rattle.records.specs.declared.numbered.Numbered.{Numbered}
-use Rattle.records.proofs.Places.{take_next, take_length}
+use Rattle.records.proofs.Places.{take_next}
 
 -- the first record of a set, or none, as a search through the records finds it
 module _ {V : Type 0} (recs : List (Record V)) (t : FactSet) where
@@ -150,4 +151,4 @@ pub picked_next : {V : Type 0} {tally : Ghosts V} → Laws tally → (table : Li
     → Picked tally (take i table) best → Picked tally (take (i + 1) table) after
 picked_next {tally = tally} laws table {i} {row} at best is p =
     subst₂ (Picked tally) (sym (take_next at)) (sym is)
-    (one_more laws (take i table) (record { number = i; row = row }) (sym (take_length table i (let h = at_less at in omega arith))) best p)
+    (one_more laws (take i table) (record { number = i; row = row }) (sym (length-take-le i table (let h = at_less at in omega arith))) best p)

@@ -1,5 +1,6 @@
 -- The record that an end tells of, and what a search that has ended tells again.
 use Rattle.std.specs.Prelude.{ℕ, ◌<◌, List}
+use Rattle.std.specs.Coded.{Unit-prop, le_prop}
 use Rattle.costs.specs.declared.tally.Tally.{Ghosts}
 use Rattle.theory.specs.Problem.{Problem}
 use Rattle.theory.specs.Runs.{Tells}
@@ -15,6 +16,13 @@ Inside n Going = Unit {0}
 Inside n (Planned i) = i < n
 Inside n Exhausted = Unit {0}
 Inside n (Filled i) = i < n
+
+-- which can be known in one way only
+pub inside_prop : (n : ℕ) (end : End) → IsProp (Inside n end)
+inside_prop n Going = Unit-prop
+inside_prop n (Planned i) = le_prop
+inside_prop n Exhausted = Unit-prop
+inside_prop n (Filled i) = le_prop
 
 -- the reply is what the rules have a search tell that has ended so
 abbrev pub Retells : {V : Type 0} → Ghosts V → List (Record V) → End → Reply V → Type 0

@@ -1,9 +1,9 @@
-use Rattle.std.proofs.Common.{take, length, Some, sym, refl, ap, ◌∙◌, subst, arith}
+use Rattle.std.proofs.Common.{length, Some, sym, refl, ap, ◌∙◌, subst, arith}
 use Rattle.std.proofs.lemmas.List.{set-get_or}
 use Rattle.theory.specs.Runs.{Trail}
 use Rattle.runs.specs.Trails.{Steps}
 use Rattle.runs.proofs.Trailing.{copied_none, copied_more, copied_all, way_done}
-use Rattle.runs.proofs.trails.copy_trail.Goals as goal
+use Rattle.runs.proofs.trails.copy_moves.Goals as goal
 
 pub loop-place-init : goal.loop-place-init
 loop-place-init g c = (refl, omega (arith, c.take-trail.ensures.count), copied_none _ _)
@@ -20,11 +20,11 @@ pub returns-in_default : goal.returns-in_default
 returns-in_default g c l t h =
     let inv = c.loop-place.invariant in
     let step = c.in_default.ensures.steps (omega (arith, inv.1, c.loop-place-test.true)) in
-    let way = subst (λ w. Trail w.rows.now w.at l) (sym c.take-trail.ensures.source) (subst (λ n. Trail (take n c.args.table.now) c.args.from l) (sym c.from.ensures) t) in
+    let way = subst (λ w. Trail w.rows.now w.at l) (sym c.take-trail.ensures.source) t in
     set-get_or c.loop-place.list c.loop-place.place-index 0 ∙ copied_all _ _ c.loop-place.list inv.2 l way
     (λ rest u sum. ap length (way_done (subst (λ r. Trail r c.loop-place.trail.iter.at rest) (sym inv.0) u) step.1))
 
 pub returns : goal.returns
 returns g c l t h =
-    let way = subst (λ w. Trail w.rows.now w.at l) (sym c.take-trail.ensures.source) (subst (λ n. Trail (take n c.args.table.now) c.args.from l) (sym c.from.ensures) t) in
+    let way = subst (λ w. Trail w.rows.now w.at l) (sym c.take-trail.ensures.source) t in
     copied_all _ _ c.loop-place.list c.loop-place.invariant.2 l way (λ rest u sum. omega (arith, h, sum, c.loop-place-test.false, c.loop-place.auto.list))
