@@ -1,11 +1,10 @@
 -- What the goal of a task costs at least, and how that is printed.
-use Rattle.std.specs.Prelude.{◌≡◌, ℕ, List, codes, decimal}
+use Rattle.std.specs.Prelude.{◌≡◌, ℕ, List, codes, decimal, None, Some}
 use Rattle.facts.specs.declared.sets.FactSet.{FactSet}
 use Rattle.tasks.specs.Tasks.{goal_of}
 use Rattle.tasks.specs.declared.task.Task.{Task}
 use Rattle.costs.specs.Minutes.{no_longer, held, sum}
-use Rattle.costs.specs.declared.estimate.Estimate.{Estimate}
-use Rattle.costs.specs.declared.estimate.Estimate.TheVariants.{Value, Never}
+use Rattle.costs.specs.Estimates.{Estimate}
 use Rattle.costs.specs.declared.minutes.Minutes.{Minutes}
 use Rattle.costs.specs.declared.tally.Tally.{Ghosts}
 use Rattle.tables.specs.Equation.{setting_of, Greatest}
@@ -21,5 +20,5 @@ pub record IsFloor (t : Task) (groups : ℕ) (floor : Estimate Minutes) : Type 0
   pub is : floor ≡ est (goal_of t)
 
 abbrev pub floor_text : Estimate Minutes → List ℕ
-floor_text (Value cost) = decimal cost.total
-floor_text Never = codes "never"
+floor_text (Some cost) = decimal cost.total
+floor_text None = codes "never"

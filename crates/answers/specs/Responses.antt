@@ -7,7 +7,7 @@ use Rattle.tasks.specs.declared.moves.Move.{Move}
 use Rattle.tasks.specs.Tasks.{draft_of}
 use Rattle.tasks.specs.declared.refusal.Fault.{Fault}
 use Rattle.tasks.specs.declared.task.Task.{Task}
-use Rattle.costs.specs.declared.estimate.Estimate.{Estimate}
+use Rattle.costs.specs.Estimates.{Estimate}
 use Rattle.costs.specs.declared.minutes.Minutes.{Minutes}
 use Rattle.taskfile.specs.Flaws.{number_of as flaw_number}
 use Rattle.taskfile.specs.Headings.{DraftOf}

@@ -2,7 +2,7 @@
 use Rattle.std.specs.Prelude.{◌≡◌, ℕ, List, ◌++◌, length, codes, decimal}
 use Rattle.facts.specs.Sets.{Lists}
 use Rattle.tasks.specs.declared.draft.Draft.{Draft}
-use Rattle.costs.specs.declared.estimate.Estimate.{Estimate}
+use Rattle.costs.specs.Estimates.{Estimate}
 use Rattle.costs.specs.declared.minutes.Minutes.{Minutes}
 use Rattle.taskfile.specs.Entries.{joined}
 use Rattle.answers.specs.Floors.{floor_text}

@@ -1,12 +1,11 @@
 -- The higher of two bounds, and their sum, keep the laws where both do.
-use Rattle.std.proofs.Common.{◌≡◌, ℕ, Bool, T, sym, ap, ◌∙◌, subst, ⊎_elim}
+use Rattle.std.proofs.Common.{◌≡◌, ℕ, Bool, T, sym, ap, ◌∙◌, subst, ⊎_elim, Some}
 use Rattle.facts.specs.declared.sets.FactSet.{FactSet}
 use Rattle.tasks.specs.declared.task.Task.{Task}
 use Rattle.costs.specs.Choices.{larger_of}
 use Rattle.costs.specs.Estimates.{join_each}
 use Rattle.costs.specs.Laws.{Lawful}
-use Rattle.costs.specs.declared.estimate.Estimate.{Estimate}
-use Rattle.costs.specs.declared.estimate.Estimate.TheVariants.{Value}
+use Rattle.costs.specs.Estimates.{Estimate}
 use Rattle.costs.specs.declared.tally.Tally.{Ghosts}
 use Rattle.costs.specs.EstimatesLemmas.{estimates_lawful}
 use Rattle.costs.proofs.Orders.{transitive, join_mono, swap_in, larger_made}
@@ -44,7 +43,7 @@ module _ {V : Type 0} {tally : Ghosts V} (laws : Lawful tally.at_most tally.nil 
     within = λ s w. ⊎_elim (λ is. is ∙ one.within s w) (λ is. is ∙ other.within s w) (larger_made (estimates_lawful laws) (e s) (f s)).chosen;
     step = λ k m s u at r.
         let top = larger_made laws (a k) (b k) in
-        higher_step (estimates_lawful laws) (e s) (e u) (f s) (f u) (Value (a k)) (Value (b k)) (Value (higher_share tally a b k))
+        higher_step (estimates_lawful laws) (e s) (e u) (f s) (f u) (Some (a k)) (Some (b k)) (Some (higher_share tally a b k))
         (one.step k m s u at r) (other.step k m s u at r) top.above_one top.above_other;
   }
 
@@ -52,10 +51,10 @@ module _ {V : Type 0} {tally : Ghosts V} (laws : Lawful tally.at_most tally.nil 
   sum_sound one other = record {
     within = λ s w.
         ap (λ x. join_each tally.join x (f s)) (one.within s w)
-        ∙ ap (λ x. join_each tally.join (Value tally.nil) x) (other.within s w)
-        ∙ ap Value (laws.neutral tally.nil);
+        ∙ ap (λ x. join_each tally.join (Some tally.nil) x) (other.within s w)
+        ∙ ap Some (laws.neutral tally.nil);
     step = λ k m s u at r.
-        sum_step (estimates_lawful laws) (e s) (e u) (f s) (f u) (Value (a k)) (Value (b k)) (one.step k m s u at r) (other.step k m s u at r);
+        sum_step (estimates_lawful laws) (e s) (e u) (f s) (f u) (Some (a k)) (Some (b k)) (one.step k m s u at r) (other.step k m s u at r);
   }
 
 pub piles_are_sound : {V : Type 0} {tally : Ghosts V} → Lawful tally.at_most tally.nil tally.join → PilesAreSound tally

@@ -4,7 +4,7 @@ use Rattle.facts.specs.declared.sets.FactSet.{FactSet}
 use Rattle.tasks.specs.declared.task.Task.{Task}
 use Rattle.costs.specs.Choices.{larger_of}
 use Rattle.costs.specs.Estimates.{not_above, join_each}
-use Rattle.costs.specs.declared.estimate.Estimate.{Estimate}
+use Rattle.costs.specs.Estimates.{Estimate}
 use Rattle.costs.specs.declared.tally.Tally.{Ghosts}
 use Rattle.bounds.specs.Sound.{Sound}
 

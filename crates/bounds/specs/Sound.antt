@@ -1,17 +1,16 @@
 -- The two laws of a bound, when it is overdrawn, and what follows.
-use Rattle.std.specs.Prelude.{◌≡◌, ℕ, false, T, List}
+use Rattle.std.specs.Prelude.{◌≡◌, ℕ, false, T, List, Some}
 use Rattle.facts.specs.Sets.{Within}
 use Rattle.facts.specs.declared.sets.FactSet.{FactSet}
 use Rattle.tasks.specs.Lists.{Chain, Good}
 use Rattle.tasks.specs.Moves.{Regresses}
 use Rattle.tasks.specs.Places.{At}
-use Rattle.tasks.specs.Tasks.{start_of, goal_of, moves_of, Checked}
+use Rattle.tasks.specs.Tasks.{start_of, goal_of, moves_of}
 use Rattle.tasks.specs.declared.moves.Move.{Move}
 use Rattle.tasks.specs.declared.task.Task.{Task}
 use Rattle.costs.specs.Estimates.{not_above, join_each}
 use Rattle.costs.specs.Lists.{Costs, charge_of}
-use Rattle.costs.specs.declared.estimate.Estimate.{Estimate}
-use Rattle.costs.specs.declared.estimate.Estimate.TheVariants.{Value}
+use Rattle.costs.specs.Estimates.{Estimate}
 use Rattle.costs.specs.declared.tally.Tally.{Ghosts}
 
 -- one estimate is at most another
@@ -20,18 +19,21 @@ NotAbove tally e f = T (not_above tally.at_most e f)
 
 -- a value joined with an estimate
 abbrev pub joined_with : {V : Type 0} → Ghosts V → V → Estimate V → Estimate V
-joined_with tally v e = join_each tally.join (Value v) e
+joined_with tally v e = join_each tally.join (Some v) e
 
 pub record Sound {V : Type 0} (tally : Ghosts V) (t : Task) (estimate : FactSet → Estimate V) (share : ℕ → V) : Type 0 where
   -- a set within the start costs nothing
-  pub within : (s : FactSet) → Within s (start_of t) → estimate s ≡ Value tally.nil
+  pub within : (s : FactSet) → Within s (start_of t) → estimate s ≡ Some tally.nil
   -- if a move regresses s to u, the estimate of s is at most the move's share joined with the estimate of u
   pub step : (k : ℕ) (m : Move) (s u : FactSet) → At (moves_of t) k m → Regresses m s u
       → NotAbove tally (estimate s) (joined_with tally (share k) (estimate u))
 
 -- some move's share is above its charge
+abbrev pub SomeAbove : {V : Type 0} → Ghosts V → List Move → (ℕ → V) → Type 0
+SomeAbove tally moves share = (k : ℕ) × (m : Move) × At moves k m × (tally.at_most (share k) (charge_of tally m) ≡ false)
+
 abbrev pub Overdrawn : {V : Type 0} → Ghosts V → Task → (ℕ → V) → Type 0
-Overdrawn tally t share = (k : ℕ) × (m : Move) × At (moves_of t) k m × (tally.at_most (share k) (charge_of tally m) ≡ false)
+Overdrawn tally t share = SomeAbove tally (moves_of t) share
 
 -- estimates that keep the laws, with shares that are not overdrawn
 pub record Trusted {V : Type 0} (tally : Ghosts V) (t : Task) (estimate : FactSet → Estimate V) (share : ℕ → V) : Type 0 where
@@ -41,8 +43,8 @@ pub record Trusted {V : Type 0} (tally : Ghosts V) (t : Task) (estimate : FactSe
 -- no chain from a set to one within the start costs less than the set's estimate, and no good list less than that of the goal
 pub record Floors {V : Type 0} (tally : Ghosts V) (t : Task) (estimate : FactSet → Estimate V) : Type 0 where
   pub chains : (s u : FactSet) (l : List ℕ) (v : V) → Chain (moves_of t) s l u → Within u (start_of t) → Costs tally (moves_of t) l v
-      → NotAbove tally (estimate s) (Value v)
-  pub lists : Checked t → (l : List ℕ) (v : V) → Good t l → Costs tally (moves_of t) l v → NotAbove tally (estimate (goal_of t)) (Value v)
+      → NotAbove tally (estimate s) (Some v)
+  pub lists : (l : List ℕ) (v : V) → Good t l → Costs tally (moves_of t) l v → NotAbove tally (estimate (goal_of t)) (Some v)
 
 abbrev pub EstimatesAreFloors : {V : Type 0} → Ghosts V → Type 0
 EstimatesAreFloors {V} tally = (t : Task) (estimate : FactSet → Estimate V) (share : ℕ → V) → Trusted tally t estimate share → Floors tally t estimate

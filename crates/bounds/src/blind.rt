@@ -1,6 +1,5 @@
 // The bound that knows nothing.
-ghost use Rattle.std.specs.Prelude.{true};
-ghost use Rattle.costs.specs.declared.estimate.Estimate.TheVariants.{Value as AValue};
+ghost use Rattle.std.specs.Prelude.{true, Some};
 
 use crate::bound::Bound;
 use costs::{Estimate, Tally};
@@ -19,7 +18,7 @@ impl<V: Tally> Bound for Blind<V> {
 
     ghost fitting = { λ b t. true };
 
-    ghost estimated = { λ b s. AValue V.Tally.nil };
+    ghost estimated = { λ b s. Some V.Tally.nil };
 
     ghost shared = { λ b k. V.Tally.nil };
 

@@ -2,7 +2,7 @@
 ghost use Rattle.std.specs.Prelude.{◌≡◌, ℕ, Bool, T};
 ghost use Rattle.facts.specs.declared.sets.FactSet.{FactSet};
 ghost use Rattle.tasks.specs.declared.task.Task.{Task};
-ghost use Rattle.costs.specs.declared.estimate.Estimate.{Estimate};
+ghost use Rattle.costs.specs.Estimates.{Estimate};
 ghost use Rattle.bounds.specs.Sound.{Sound};
 
 use costs::{Estimate, Tally};

@@ -1,6 +1,5 @@
 // The higher of two bounds.
-ghost use Rattle.std.specs.Prelude.{◌≡◌, ◌&&◌};
-ghost use Rattle.costs.specs.Choices.{larger_of};
+ghost use Rattle.std.specs.Prelude.{◌&&◌};
 ghost use Rattle.bounds.specs.Piles.{higher_estimate, higher_share};
 
 use crate::bound::Bound;
@@ -32,17 +31,10 @@ impl<A: Bound, B: Bound<Value = A::Value>> Bound for Higher<A, B> {
     }
 
     fn estimate(&self, set: FactSet) -> Estimate<A::Value> {
-        larger(self.one.estimate(set), self.other.estimate(set))
+        self.one.estimate(set).larger(self.other.estimate(set))
     }
 
     fn share(&self, number: u16) -> A::Value {
-        larger(self.one.share(number), self.other.share(number))
+        self.one.share(number).larger(self.other.share(number))
     }
-}
-
-// The larger of two costs.
-fn larger<V: Tally>(one: V, other: V) -> V
-    ensures { result ≡ larger_of V.Tally.at_most one other }
-{
-    if one.at_most(other) { other } else { one }
 }

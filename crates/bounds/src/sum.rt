@@ -8,7 +8,8 @@ use costs::{Estimate, Tally};
 use facts::FactSet;
 use tasks::Task;
 
-// It fits where both fit; its estimates and shares are theirs joined.
+// It fits where both fit; its estimates and shares are theirs joined. `Higher` differs in the operation: one type for both
+// would need a parameter that stands for `join` or `larger` of every tally, with a trait for it, to save these lines.
 #[derive(Drop)]
 pub struct Sum<A, B> {
     pub one: A,

@@ -35,15 +35,15 @@ fn draft_of(moves: &[Move]) -> Result<Draft<'_>, Fail> {
 // The minutes, `None` for never.
 fn minutes(estimate: Estimate<Minutes>) -> Option<u32> {
     match estimate {
-        Estimate::Value(cost) => Some(cost.total),
-        Estimate::Never => None,
+        Some(cost) => Some(cost.total),
+        None => None,
     }
 }
 
 fn highest(estimate: Estimate<Worst>) -> Option<u16> {
     match estimate {
-        Estimate::Value(cost) => Some(cost.highest),
-        Estimate::Never => None,
+        Some(cost) => Some(cost.highest),
+        None => None,
     }
 }
 
@@ -53,7 +53,7 @@ fn single(rt: &impl Abort, groups: u8) -> Result<Option<u32>, Fail> {
     let Ok(task) = tasks::check(draft_of(&moves)?) else {
         return Err(Fail::new("refused"));
     };
-    let mut table = [Estimate::<Minutes>::Never; 3];
+    let mut table: [Estimate<Minutes>; 3] = [None; 3];
     assert!(rt; work_out_single(&task, groups, &mut table).is_ok());
     Ok(minutes(Single::of(&task, groups, &table).estimate(task.goal())))
 }
@@ -64,7 +64,7 @@ fn pair(rt: &impl Abort, set: FactSet) -> Result<Option<u32>, Fail> {
     let Ok(task) = tasks::check(draft_of(&moves)?) else {
         return Err(Fail::new("refused"));
     };
-    let mut table = [Estimate::<Minutes>::Never; 9];
+    let mut table: [Estimate<Minutes>; 9] = [None; 9];
     assert!(rt; work_out_pair(&task, 255, &mut table).is_ok());
     Ok(minutes(Pair::of(&task, 255, &table).estimate(set)))
 }
@@ -75,8 +75,8 @@ fn sum(rt: &impl Abort, one: u8, other: u8) -> Result<(Option<u32>, bool), Fail>
     let Ok(task) = tasks::check(draft_of(&moves)?) else {
         return Err(Fail::new("refused"));
     };
-    let mut first = [Estimate::<Minutes>::Never; 3];
-    let mut second = [Estimate::<Minutes>::Never; 3];
+    let mut first: [Estimate<Minutes>; 3] = [None; 3];
+    let mut second: [Estimate<Minutes>; 3] = [None; 3];
     assert!(rt; work_out_single(&task, one, &mut first).is_ok());
     assert!(rt; work_out_single(&task, other, &mut second).is_ok());
     let both = Sum {
@@ -107,8 +107,8 @@ fn sums_in_worst(rt: HostRuntime) -> Result<(), Fail> {
     let Ok(task) = tasks::check(draft_of(&moves)?) else {
         return Err(Fail::new("refused"));
     };
-    let mut all = [Estimate::<Worst>::Never; 3];
-    let mut second = [Estimate::<Worst>::Never; 3];
+    let mut all: [Estimate<Worst>; 3] = [None; 3];
+    let mut second: [Estimate<Worst>; 3] = [None; 3];
     assert!(rt; work_out_single(&task, 255, &mut all).is_ok());
     assert!(rt; work_out_single(&task, 2, &mut second).is_ok());
     let both = Sum {
@@ -126,7 +126,7 @@ fn worst_pair(rt: &impl Abort, groups: u8) -> Result<Option<u16>, Fail> {
     let Ok(task) = tasks::check(draft_of(&moves)?) else {
         return Err(Fail::new("refused"));
     };
-    let mut table = [Estimate::<Worst>::Never; 9];
+    let mut table: [Estimate<Worst>; 9] = [None; 9];
     assert!(rt; work_out_pair(&task, groups, &mut table).is_ok());
     Ok(highest(Pair::of(&task, groups, &table).estimate(task.goal())))
 }
@@ -144,7 +144,7 @@ fn a_pile_of_bounds(rt: HostRuntime) -> Result<(), Fail> {
     let Ok(task) = tasks::check(draft_of(&moves)?) else {
         return Err(Fail::new("refused"));
     };
-    let mut table = [Estimate::<Minutes>::Never; 9];
+    let mut table: [Estimate<Minutes>; 9] = [None; 9];
     assert!(rt; work_out_pair(&task, 255, &mut table).is_ok());
     let pair = Pair::of(&task, 255, &table);
     let blind = Blind { of: PhantomData };
@@ -185,7 +185,7 @@ fn moves_that_need_each_other(rt: HostRuntime) -> Result<(), Fail> {
     }) else {
         return Err(Fail::new("refused"));
     };
-    let mut table = [Estimate::<Minutes>::Never; 2];
+    let mut table: [Estimate<Minutes>; 2] = [None; 2];
     assert!(rt; work_out_single(&task, 255, &mut table).is_ok());
     assert_eq!(rt; minutes(table[0]), None);
     assert_eq!(rt; minutes(table[1]), None);
@@ -211,7 +211,7 @@ fn pairs_fit(table: [Estimate<Minutes>; 9]) -> Result<bool, Fail> {
 }
 
 fn value(total: u32) -> Estimate<Minutes> {
-    Estimate::Value(Minutes { total })
+    Some(Minutes { total })
 }
 
 #[test]
@@ -220,7 +220,7 @@ fn tables_that_break_a_rule(rt: HostRuntime) -> Result<(), Fail> {
     assert!(rt; fits([value(0), value(14), value(0)])?);
     assert!(rt; !fits([value(1), value(15), value(4)])?);
     assert!(rt; !fits([value(0), value(16), value(4)])?);
-    let never = Estimate::<Minutes>::Never;
+    let never: Estimate<Minutes> = None;
     let [a, b, c, d, e, f, g, h, i] = [
         value(0),
         never,
@@ -249,7 +249,7 @@ fn fits_other(rt: &impl Abort, draft: Draft<'_>) -> Result<bool, Fail> {
     let Ok(other) = tasks::check(draft) else {
         return Err(Fail::new("refused"));
     };
-    let mut table = [Estimate::<Minutes>::Never; 3];
+    let mut table: [Estimate<Minutes>; 3] = [None; 3];
     assert!(rt; work_out_single(&task, 255, &mut table).is_ok());
     Ok(Single::of(&task, 255, &table).fits(&other))
 }

@@ -1,7 +1,7 @@
 use crate::{move_of, set_of};
 use facts::FactSet;
 use std::test::Fail;
-use tasks::{Draft, Move, Outcome, Task};
+use tasks::{Draft, Move, Task};
 
 // The number and the move of the refusal, or `None` where the draft passes.
 fn refused(draft: Draft<'_>) -> Option<(u16, u16)> {
@@ -139,8 +139,8 @@ fn numbers_of_moves(rt: HostRuntime) -> Result<(), Fail> {
 // What carrying out comes to: the facts at the end and whether the goal stands, or where it gets stuck.
 fn carried(task: &Task<'_>, list: &[u16]) -> Result<(FactSet, bool), usize> {
     match task.carry(list) {
-        Outcome::Done { facts, goal } => Ok((facts, goal)),
-        Outcome::Stuck { at } => Err(at),
+        Ok(end) => Ok((end.facts, end.goal)),
+        Err(stuck) => Err(stuck.at),
     }
 }
 

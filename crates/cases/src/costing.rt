@@ -1,5 +1,5 @@
 use crate::move_of;
-use costs::{Estimate, Minutes, Tally, Worst, higher, list_cost, lower};
+use costs::{Estimate, Minutes, Tally, Worst, list_cost};
 use facts::FactSet;
 use std::test::Fail;
 use tasks::{Draft, Move, Task};
@@ -40,21 +40,21 @@ fn worst_takes_the_larger(rt: HostRuntime) {
 // The total, or `None` for never.
 fn total(estimate: Estimate<Minutes>) -> Option<u32> {
     match estimate {
-        Estimate::Value(m) => Some(m.total),
-        Estimate::Never => None,
+        Some(m) => Some(m.total),
+        None => None,
     }
 }
 
 #[test]
 fn never_is_above_all(rt: HostRuntime) {
-    let some = Estimate::Value(minutes(4));
-    let never = Estimate::<Minutes>::Never;
+    let some = Some(minutes(4));
+    let never: Estimate<Minutes> = None;
     assert!(rt; some.at_most(never) && !never.at_most(some) && never.at_most(never));
     assert_eq!(rt; total(some.join(never)), None);
     assert_eq!(rt; total(never.join(some)), None);
     assert_eq!(rt; total(some.join(some)), Some(8));
-    assert_eq!(rt; total(higher(some, never)), None);
-    assert_eq!(rt; total(lower(some, never)), Some(4));
+    assert_eq!(rt; total(some.larger(never)), None);
+    assert_eq!(rt; total(some.smaller(never)), Some(4));
 }
 
 // What the list costs in minutes, `None` where a number is no move.

@@ -7,7 +7,7 @@ mod minutes;
 mod tally;
 mod worst;
 
-pub use estimate::{Estimate, higher, lower};
+pub use estimate::Estimate;
 pub use lists::list_cost;
 pub use minutes::Minutes;
 pub use tally::Tally;

@@ -1,5 +1,6 @@
 // A tally is a kind of cost: an order, a least value, a join and the charge for a move.
 ghost use Rattle.std.specs.Prelude.{◌≡◌, ℕ, Bool};
+ghost use Rattle.costs.specs.Choices.{Larger, Smaller, larger_of, smaller_of};
 ghost use Rattle.costs.specs.Laws.{Lawful};
 
 pub trait Tally: Copy {
@@ -26,6 +27,22 @@ pub trait Tally: Copy {
     // What a move of this price and group costs.
     fn charge(price: u16, group: u8) -> Self
         ensures { result ≡ charge price group };
+
+    // The larger of the two.
+    fn larger(self, other: Self) -> Self
+        ensures is { result ≡ larger_of at_most self other }
+        ensures larger { Larger at_most self other result }
+    {
+        if self.at_most(other) { other } else { self }
+    }
+
+    // The smaller of the two.
+    fn smaller(self, other: Self) -> Self
+        ensures is { result ≡ smaller_of at_most self other }
+        ensures smaller { Smaller at_most self other result }
+    {
+        if self.at_most(other) { self } else { other }
+    }
 
     ghost lawful: { Lawful at_most nil join };
 }

@@ -1,7 +1,6 @@
 -- A book of calls on a new search is a queue of the rules, and so keeps the promises.
-use Rattle.std.proofs.Common.{◌≡◌, ℕ, ◌≤◌, min, ◌⊎◌, List, ◌∷◌, length, take, Ok, Err, Result, sym, refl, ap, ◌∙◌, subst, subst₂, inl, inr, arith, length-take}
+use Rattle.std.proofs.Common.{◌≡◌, ℕ, ◌≤◌, min, ◌⊎◌, List, ◌∷◌, length, Ok, Err, Result, sym, refl, ap, ◌∙◌, subst, subst₂, inl, inr, arith, length-take}
 use Rattle.tasks.specs.Places.{At, here, there}
-use Rattle.tasks.specs.Tasks.{Checked}
 use Rattle.tasks.specs.declared.task.Task.{Task}
 use Rattle.costs.specs.Laws.{Lawful}
 use Rattle.costs.specs.declared.tally.Tally.{Ghosts}
@@ -18,11 +17,12 @@ use Rattle.theory.proofs.Basics.{impossible}
 use Rattle.theory.proofs.Kept.{queues_keep_promises}
 use Rattle.theory.proofs.Single.{only_sum_counts}
 use Rattle.theory.proofs.Told.{trail_same}
-use Rattle.records.proofs.Steps.{drop_further}
+use Rattle.records.proofs.Growing.{drop_further}
+use Rattle.records.specs.Tables.{recs_of}
 use Rattle.runs.specs.Trails.{Sane}
 use Rattle.search.specs.Calls.{Made}
 use Rattle.search.specs.States.{state_by, table_of, state_of}
-use Rattle.search.specs.declared.held.Held.{Held}
+use Rattle.search.specs.declared.search.Search.{Search}
 use Rattle.search.proofs.Answering.{plan_traced}
 use Rattle.queues.specs.Calls.{Outcome, call_of, Follows, at_first, and_then, Log, blank, entry, Book, Serves}
 use Rattle.queues.specs.Promised.{KeepsPromises}
@@ -68,17 +68,16 @@ module _ {V : Type 0} {tally : Ghosts V} (lawful : Lawful tally.at_most tally.ni
   abbrev P : Problem tally
   P = record { task = task; bound = lent task; room = length table }
 
-  pub promised : (calls : List Call) (told told' : List (Outcome V)) (list list' : List ℕ) (h later : Held V) → Made P table h
-      → (Checked later.task → ∥ Sane (take later.count (table_of later)) later.end ∥₁)
-      → Serves tally (lent h.task) calls told told' list list' h later → Checked task → KeepsPromises P table calls told told' list list' later
-  promised calls told told' list list' h later new traced served checked = record {
+  pub promised : (calls : List Call) (told told' : List (Outcome V)) (list list' : List ℕ) (h later : Search V) → Made P table h
+      → Serves tally (lent h.task) calls told told' list list' h later → KeepsPromises P table calls told told' list list' later
+  promised calls told told' list list' h later new served = record {
     events = book.events;
     log = log;
     noted = served.noted;
     by_rules = queue;
-    promises = queues_keep_promises lawful P (new.honest checked) book.events (state_of later) queue steady;
-    sum_counts = λ fs other q s same. only_sum_counts lawful P (new.honest checked) book.events fs (state_of later) other queue steady q s same;
-    brief = λ recs i l e t. omega (arith, plan_brief later.made (take later.count (table_of later)) later.end (traced checked_later) e t, length-take later.count (table_of later), served.stays.rest.size, new.rest.size);
+    promises = queues_keep_promises lawful P new.honest book.events (state_of later) queue steady;
+    sum_counts = λ fs other q s same. only_sum_counts lawful P new.honest book.events fs (state_of later) other queue steady q s same;
+    brief = λ recs i l e t. omega (arith, plan_brief later.made (recs_of later.holding.records) later.holding.end later.holding.traced e t, length-take later.holding.records.count (table_of later), served.stays.rest.size, new.rest.size);
     list_read = book.list;
     table_rest = record {
       size = served.stays.rest.size ∙ new.rest.size;
@@ -86,17 +85,14 @@ module _ {V : Type 0} {tally : Ghosts V} (lawful : Lawful tally.at_most tally.ni
     };
   }
     where
-      checked_later : Checked later.task
-      checked_later = subst Checked (sym (served.stays.task ∙ new.task)) checked
-
       book : Book tally (lent h.task) calls (min (length calls) (length told)) told' list list' h later
-      book = served.book (subst Checked (sym new.task) checked)
+      book = served.book
 
       log : Log (lent task) (length list) calls told' (min (length calls) (length told)) book.events
       log = subst (λ t. Log (lent t) (length list) calls told' (min (length calls) (length told)) book.events) new.task book.log
 
       queue : Queue P book.events (state_of later)
-      queue = queue_by (new.makes checked)
+      queue = queue_by new.makes
           (subst₂ (λ t n. Follows {tally = tally} (record { task = t; bound = lent task; room = n }) (state_of h) book.events (state_of later)) new.task new.rest.size (book.follows (lent task)))
 
       steady : Steady P book.events

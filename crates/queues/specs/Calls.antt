@@ -1,7 +1,6 @@
 -- Calls of a search and what they are answered, one after another.
 use Rattle.std.specs.Prelude.{◌≡◌, ℕ, zero, suc, ◌≤◌, min, List, [], ◌∷◌, ◌++◌, length, drop, Ok, Err, Result, MatchResult}
 use Rattle.tasks.specs.Places.{At}
-use Rattle.tasks.specs.Tasks.{Checked}
 use Rattle.costs.specs.declared.tally.Tally.{Ghosts}
 use Rattle.theory.specs.Problem.{Problem, Lent}
 use Rattle.theory.specs.Promise.{records_of}
@@ -10,7 +9,7 @@ use Rattle.theory.specs.Queue.{Answer, Answers, State, Event, asked}
 use Rattle.theory.specs.declared.refusal.Refusal.{Refusal}
 use Rattle.search.specs.Calls.{PastRecords, Answered, ReadInto}
 use Rattle.search.specs.States.{table_of, state_of, problem_in}
-use Rattle.search.specs.declared.held.Held.{Held}
+use Rattle.search.specs.declared.search.Search.{Search}
 use Rattle.queues.specs.declared.calls.Call.{Call}
 use Rattle.queues.specs.declared.calls.Call.TheVariants.{Run, ReadOut}
 use Rattle.queues.specs.declared.calls.Told.{Told}
@@ -38,24 +37,24 @@ written_by (rules.read l) list = l ++ drop (length l) list
 written_by (rules.refused why) list = list
 
 -- one call: the rules give its answer, which is told, and the list is written accordingly
-pub record Reply {V : Type 0} (tally : Ghosts V) (b : Lent V) (call : Call) (before after : List ℕ) (h later : Held V) (told : Outcome V) : Type 0 where
+pub record Reply {V : Type 0} (tally : Ghosts V) (b : Lent V) (call : Call) (before after : List ℕ) (h later : Search V) (told : Outcome V) : Type 0 where
   pub answer : Answer V
   pub answered : Answered tally (call_of b (length before) call) answer h later
   pub is : told ≡ told_of answer
   pub list : after ≡ written_by answer before
 
 -- what stays the same while calls are made: the task, and the places past the records, of which there are never fewer
-pub record Stays {V : Type 0} (h later : Held V) : Type 0 where
+pub record Stays {V : Type 0} (h later : Search V) : Type 0 where
   pub task : later.task ≡ h.task
   pub grows : length (records_of (state_of h)) ≤ length (records_of (state_of later))
   pub rest : PastRecords (table_of h) later
 
-pub record Replied {V : Type 0} (tally : Ghosts V) (b : Lent V) (call : Call) (before after : List ℕ) (h later : Held V) (told : Outcome V) : Type 0 where
+pub record Replied {V : Type 0} (tally : Ghosts V) (b : Lent V) (call : Call) (before after : List ℕ) (h later : Search V) (told : Outcome V) : Type 0 where
   pub stays : Stays h later
-  pub reply : Checked h.task → Reply tally b call before after h later told
+  pub reply : Reply tally b call before after h later told
 
 -- a read-out into the first places of a list
-abbrev pub ReadFront : {V : Type 0} → Ghosts V → Held V → ℕ → (before after : List ℕ) → Result ℕ Refusal → Type 0
+abbrev pub ReadFront : {V : Type 0} → Ghosts V → Search V → ℕ → (before after : List ℕ) → Result ℕ Refusal → Type 0
 ReadFront tally h room before after r = MatchResult r
     (λ n. (l : List ℕ) × ReadInto before after l n × Answered tally (rules.read_out (min room (length before))) (rules.read l) h h)
     (λ why. (after ≡ before) × Answered tally (rules.read_out (min room (length before))) (rules.refused why) h h)
@@ -78,7 +77,7 @@ written [] list = list
 written (asked call answer ∷ es) list = written_by answer (written es list)
 
 -- the first n calls were made
-pub record Book {V : Type 0} (tally : Ghosts V) (b : Lent V) (calls : List Call) (n : ℕ) (told : List (Outcome V)) (before after : List ℕ) (h later : Held V) : Type 0 where
+pub record Book {V : Type 0} (tally : Ghosts V) (b : Lent V) (calls : List Call) (n : ℕ) (told : List (Outcome V)) (before after : List ℕ) (h later : Search V) : Type 0 where
   pub events : List (Event V)
   pub log : Log b (length before) calls told n events
   pub follows : (made : Lent V) → Follows (problem_in tally h made) (state_of h) events (state_of later)
@@ -90,7 +89,7 @@ pub record Noted {V : Type 0} (n : ℕ) (before after : List (Outcome V)) : Type
   pub rest : drop n after ≡ drop n before
 
 -- all calls were made, or the first of them, where there are fewer places for their replies
-pub record Serves {V : Type 0} (tally : Ghosts V) (b : Lent V) (calls : List Call) (told told' : List (Outcome V)) (list list' : List ℕ) (h later : Held V) : Type 0 where
+pub record Serves {V : Type 0} (tally : Ghosts V) (b : Lent V) (calls : List Call) (told told' : List (Outcome V)) (list list' : List ℕ) (h later : Search V) : Type 0 where
   pub stays : Stays h later
   pub noted : Noted (min (length calls) (length told)) told told'
-  pub book : Checked h.task → Book tally b calls (min (length calls) (length told)) told' list list' h later
+  pub book : Book tally b calls (min (length calls) (length told)) told' list list' h later

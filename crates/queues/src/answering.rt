@@ -1,6 +1,5 @@
 // The calls of a queue, one after another.
 ghost use Rattle.std.specs.Prelude.{◌≡◌};
-ghost use Rattle.tasks.specs.Tasks.{Checked};
 ghost use Rattle.records.specs.Openings.{lent_of};
 ghost use Rattle.queues.specs.Calls.{Replied, ReadFront, Serves};
 
@@ -18,8 +17,8 @@ pub fn answer_all<V: Tally, B: Bound<Value = V>>(
     replies: &mut [Result<Told<V>, Refusal>],
     list: &mut [u16],
 )
-    ensures served { Serves V.Tally (lent_of B.Bound search.old.held.task bound.now) calls.now replies.old replies.new list.old list.new search.old.held search.new.held }
-    ensures lent { search.new.held.table.ghost_name ≡ search.old.held.table.ghost_name }
+    ensures served { Serves V.Tally (lent_of B.Bound search.old.task bound.now) calls.now replies.old replies.new list.old list.new search.old search.new }
+    ensures lent { search.new.holding.records.table.ghost_name ≡ search.old.holding.records.table.ghost_name }
 {
     for (i, told) in replies.iter_mut().enumerate() {
         let Some(call) = calls.get(i) else {
@@ -36,8 +35,8 @@ fn answer<V: Tally, B: Bound<Value = V>>(
     call: Call,
     list: &mut [u16],
 ) -> Result<Told<V>, Refusal>
-    ensures replied { Replied V.Tally (lent_of B.Bound search.old.held.task bound.now) call list.old list.new search.old.held search.new.held result }
-    ensures lent { search.new.held.table.ghost_name ≡ search.old.held.table.ghost_name }
+    ensures replied { Replied V.Tally (lent_of B.Bound search.old.task bound.now) call list.old list.new search.old search.new result }
+    ensures lent { search.new.holding.records.table.ghost_name ≡ search.old.holding.records.table.ghost_name }
 {
     match call {
         Call::Run(grant) => {
@@ -57,7 +56,7 @@ fn read_front<V: Tally>(
     room: usize,
     list: &mut [u16],
 ) -> Result<u16, Refusal>
-    ensures { Checked search.now.held.task → ReadFront V.Tally search.now.held room list.old list.new result }
+    ensures { ReadFront V.Tally search.now room list.old list.new result }
 {
     let places = room.min(list.len());
     search.read_out(&mut list[0..places])

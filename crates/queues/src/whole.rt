@@ -1,6 +1,5 @@
 // The call that carries a whole queue.
 ghost use Rattle.std.specs.Prelude.{length};
-ghost use Rattle.tasks.specs.Tasks.{Checked};
 ghost use Rattle.records.specs.Openings.{problem_of};
 ghost use Rattle.queues.specs.Promised.{KeepsPromises};
 
@@ -22,7 +21,7 @@ pub fn queue<'a, 't, V: Tally, B: Bound<Value = V>>(
     replies: &mut [Result<Told<V>, Refusal>],
     list: &mut [u16],
 ) -> Search<'a, 't, V>
-    ensures { Checked task.entry → KeepsPromises (problem_of V.Tally B.Bound task.entry bound.now (length table.old)) table.old calls.now replies.old replies.new list.old list.new result.held }
+    ensures { KeepsPromises (problem_of V.Tally B.Bound task.entry bound.now (length table.old)) table.old calls.now replies.old replies.new list.old list.new result }
 {
     let mut search = Search::make(task, bound, table);
     answer_all(&mut search, bound, calls, replies, list);

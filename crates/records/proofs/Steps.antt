@@ -1,17 +1,20 @@
 -- An opening: the moves taken one after another, and the choice shut.
-use Rattle.std.proofs.Common.{◌≡◌, ℕ, ◌+◌, ◌≤◌, List, length, sym, ap, subst, add-one, arith}
+use Rattle.std.proofs.Common.{◌≡◌, ℕ, ◌+◌, ◌<◌, ◌≤◌, List, length, get_or, Some, sym, ap, subst, add-one, arith}
 use Rattle.facts.specs.declared.sets.FactSet.{FactSet}
 use Rattle.tasks.specs.Moves.{Regresses}
 use Rattle.tasks.specs.Places.{At}
 use Rattle.tasks.specs.Tasks.{moves_of}
 use Rattle.tasks.specs.declared.moves.Move.{Move}
-use Rattle.tasks.proofs.Places.{at_less}
-use Rattle.costs.specs.declared.estimate.Estimate.TheVariants.{Value}
+use Rattle.tasks.proofs.Checks.{no_move}
+use Rattle.tasks.proofs.Places.{at_less, at_get}
 use Rattle.costs.specs.declared.tally.Tally.{Ghosts}
 use Rattle.theory.specs.Openings.{child, LeadsTo, Unrecorded, Takes, TakesFirst, none_yet, and_next, Opens, opens, Overflows, overflows}
 use Rattle.theory.specs.Problem.{Problem}
 use Rattle.theory.specs.declared.record.Record.{Record}
 use Rattle.records.specs.Openings.{ShutAt}
+
+pub move_here : {items moves : List Move} {number : ℕ} → items ≡ moves → number < length items → At moves number (get_or items number no_move)
+move_here {items = items} {number = number} same less = subst (λ l. At l number (get_or items number no_move)) same (at_get items number no_move less)
 
 module _ {V : Type 0} {tally : Ghosts V} (P : Problem tally) (recs : List (Record V)) (i : ℕ) (c : Record V) where
   first_less : {number : ℕ} {later : List (Record V)} → TakesFirst P recs i c number later → number ≤ length (moves_of P.task)
@@ -28,7 +31,7 @@ module _ {V : Type 0} {tally : Ghosts V} (P : Problem tally) (recs : List (Recor
         subst (λ k. TakesFirst P recs i c k mid) last so
 
     -- the move leads to a new record, which comes in or finds no room
-    module _ {m : Move} {t : FactSet} {e : V} (at : At (moves_of P.task) number m) (regresses : Regresses m c.set t) (hoped : P.bound.estimate t ≡ Value e) where
+    module _ {m : Move} {t : FactSet} {e : V} (at : At (moves_of P.task) number m) (regresses : Regresses m c.set t) (hoped : P.bound.estimate t ≡ Some e) where
       lead : LeadsTo P c m t e
       lead = record { regresses = regresses; hoped = hoped }
 

@@ -1,6 +1,5 @@
 // A run, rule by rule.
 ghost use Rattle.std.specs.Prelude.{length};
-ghost use Rattle.tasks.specs.Tasks.{Checked};
 ghost use Rattle.theory.specs.declared.reply.End.TheVariants.{Going};
 ghost use Rattle.records.specs.Openings.{problem_of};
 ghost use Rattle.records.specs.Tables.{recs_of, room_of, Grown};
@@ -26,7 +25,7 @@ pub fn run<V: Tally, B: Bound<Value = V>>(
     grant: u32,
 ) -> Reply<V>
     ensures grown { Grown holding.old.records holding.new.records }
-    ensures ran { Checked task.now → ∥ Sane (recs_of holding.old.records) holding.old.end ∥₁ → RunsTo (problem_of V.Tally B.Bound task.now bound.now (room_of holding.old.records)) grant (recs_of holding.old.records) holding.old.end result (recs_of holding.new.records) holding.new.end }
+    ensures ran { RunsTo (problem_of V.Tally B.Bound task.now bound.now (room_of holding.old.records)) grant (recs_of holding.old.records) holding.old.end result (recs_of holding.new.records) holding.new.end }
 {
     if let Some(reply) = tell(holding) {
         return reply;
@@ -45,7 +44,7 @@ fn go_on<V: Tally, B: Bound<Value = V>>(
 ) -> Ran<V>
     ensures grown { Grown records.old records.new }
     ensures inside { Inside (length (recs_of records.new)) result.end }
-    ensures ran { Checked task.now → ∥ Sane (recs_of records.old) Going ∥₁ → RunsTo (problem_of V.Tally B.Bound task.now bound.now (room_of records.old)) grant (recs_of records.old) Going result.reply (recs_of records.new) result.end }
+    ensures ran { ∥ Sane (recs_of records.old) Going ∥₁ → RunsTo (problem_of V.Tally B.Bound task.now bound.now (room_of records.old)) grant (recs_of records.old) Going result.reply (recs_of records.new) result.end }
 {
     let mut opened = 0;
     while let Some(first) = records.choice() {

@@ -11,7 +11,7 @@ use Rattle.theory.specs.declared.record.Record.{Record}
 use Rattle.theory.specs.declared.reply.Reply.{Reply}
 use Rattle.theory.proofs.Basics.{impossible}
 use Rattle.search.specs.States.{state_of}
-use Rattle.search.specs.declared.held.Held.{Held}
+use Rattle.search.specs.declared.search.Search.{Search}
 use Rattle.queues.specs.Calls.{Outcome, call_of, told_of, written, Log, blank, entry}
 use Rattle.queues.specs.Promised.{KeepsPromises}
 use Rattle.queues.specs.declared.calls.Call.{Call}
@@ -96,7 +96,7 @@ solves t b told events before after now u l q p brief list =
     read_so : {a b c d : List ℕ} → a ≡ b → b ≡ c → c ≡ d → a ≡ d
     read_so e f g = e ∙ f ∙ g
 
-pub asks : (t : Task) (b : Lent Minutes) (table : List (Record Minutes)) (told told' : List (Outcome Minutes)) (before after : List ℕ) (h : Held Minutes)
+pub asks : (t : Task) (b : Lent Minutes) (table : List (Record Minutes)) (told told' : List (Outcome Minutes)) (before after : List ℕ) (h : Search Minutes)
     → Useful t 255 b → length before ≡ 1024 → length told ≡ 2 → KeepsPromises (posed t b) table calls told told' before after h → Asked t told' before after
 asks t b table told told' before after h u size two k =
     let log = subst (λ n. Log b (length before) calls told' n k.events) (ap (min 2) two) k.log in

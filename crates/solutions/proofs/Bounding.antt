@@ -2,7 +2,7 @@
 use Rattle.std.proofs.Common.{◌≡◌, ℕ, true, ◌&&◌, List, sym, refl, subst₂}
 use Rattle.facts.specs.declared.sets.FactSet.{FactSet}
 use Rattle.tasks.specs.declared.task.Task.{Task}
-use Rattle.costs.specs.declared.estimate.Estimate.{Estimate}
+use Rattle.costs.specs.Estimates.{Estimate}
 use Rattle.costs.specs.declared.minutes.Minutes.{Minutes}
 use Rattle.bounds.specs.Sound.{Overdrawn}
 use Rattle.tables.specs.Equation.{Setting, setting_of, Greatest}

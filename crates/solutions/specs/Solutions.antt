@@ -2,7 +2,7 @@
 use Rattle.std.specs.Prelude.{◌≡◌, ℕ, true, T, List, [], ◌∷◌, ◌++◌, length, drop, Result, MatchResult}
 use Rattle.facts.specs.declared.sets.FactSet.{FactSet}
 use Rattle.tasks.specs.Lists.{Good}
-use Rattle.tasks.specs.Faults.{Faultless, FirstFault}
+use Rattle.tasks.specs.Faults.{FirstFault}
 use Rattle.tasks.specs.Tasks.{draft_of, moves_of}
 use Rattle.tasks.specs.declared.draft.Draft.{Draft}
 use Rattle.tasks.specs.declared.moves.Move.{Move}
@@ -10,7 +10,7 @@ use Rattle.tasks.specs.declared.refusal.Fault.{Fault}
 use Rattle.tasks.specs.declared.task.Task.{Task}
 use Rattle.costs.specs.Lists.{Costs}
 use Rattle.costs.specs.Minutes.{no_longer, held, sum}
-use Rattle.costs.specs.declared.estimate.Estimate.{Estimate}
+use Rattle.costs.specs.Estimates.{Estimate}
 use Rattle.costs.specs.declared.minutes.Minutes.{Minutes}
 use Rattle.costs.specs.declared.tally.Tally.{Ghosts}
 use Rattle.taskfile.specs.Headings.{DraftOf}
@@ -60,4 +60,4 @@ pub record Solved (t : Task) (before after : List ℕ) (r : Reply Minutes) : Typ
 -- what is found of the draft of a heading and a list of moves: its first fault, or what the search finds
 abbrev pub Found : Heading → List Move → (before after : List ℕ) → Result (Reply Minutes) Fault → Type 0
 Found h moves before after r = (d : Draft) × DraftOf h moves d
-    × MatchResult r (λ reply. (t : Task) × Faultless d × (draft_of t ≡ d) × Solved t before after reply) (FirstFault d)
+    × MatchResult r (λ reply. (t : Task) × (draft_of t ≡ d) × Solved t before after reply) (FirstFault d)

@@ -1,6 +1,5 @@
 // The search that such a program makes: minutes, the pair table of all groups, 1,024 records and as many openings.
 ghost use Rattle.std.specs.Prelude.{◌≡◌, ◌≤◌, length};
-ghost use Rattle.tasks.specs.Tasks.{Checked};
 ghost use Rattle.tables.specs.Equation.{setting_of};
 ghost use Rattle.tables.specs.Worked.{PairsTable};
 ghost use Rattle.solutions.specs.Solutions.{Found, Solved, minutes};
@@ -30,20 +29,18 @@ pub fn find(
     Ok(search(task, list))
 }
 
-// What the search tells of a checked task.
+// What the search tells of a task.
 fn search(task: Task<'_>, list: &mut [u16]) -> Reply<Minutes>
-    requires checked { Checked task }
     requires room { length list.old ≡ 1024 }
     ensures { Solved task.entry list.old list.new result }
 {
-    let mut pairs = [Estimate::<Minutes>::Never; 4096];
+    let mut pairs: [Estimate<Minutes>; 4096] = [None; 4096];
     let _ = work_out_pair(&task, 255, &mut pairs);
     search_by(task, &pairs, list)
 }
 
 // The same by the pair table of the task.
 fn search_by(task: Task<'_>, pairs: &[Estimate<Minutes>], list: &mut [u16]) -> Reply<Minutes>
-    requires checked { Checked task }
     requires worked { PairsTable minutes (setting_of task 255) pairs.now }
     requires room { length list.old ≡ 1024 }
     ensures { Solved task.entry list.old list.new result }

@@ -1,13 +1,12 @@
 -- The places of a table in its list.
-use Rattle.std.proofs.Common.{◌≡◌, ℕ, zero, suc, ◌+◌, ◌*◌, ◌/◌, ◌%◌, ◌<◌, ◌≤◌, Bool, true, false, cond, ltb, ◌≢◌, ◌⊎◌, List, [], ◌∷◌, length, get_or, set, replicate, sym, refl, ap, ◌∙◌, subst, inl, inr, ⊎_elim, arith, below_more}
+use Rattle.std.proofs.Common.{◌≡◌, ℕ, zero, suc, ◌+◌, ◌*◌, ◌/◌, ◌%◌, ◌<◌, ◌≤◌, Bool, true, false, cond, ltb, ◌≢◌, ◌⊎◌, List, [], ◌∷◌, length, get_or, set, replicate, sym, refl, ap, ◌∙◌, subst, inl, inr, ⊎_elim, arith, below_more, None}
 use Rattle.std.proofs.lemmas.Nat.{div-mul-add, mod-mul-add, mul-add-lt}
 use Rattle.std.proofs.lemmas.List.{get_or-set_same, get_or-set_other}
 use Rattle.std.proofs.lemmas.Bool.{and_from, and_left, and_right, cases_eq, cases_lt, cond-true, cond-false, lt-ltb, le-ltb}
 use Rattle.facts.proofs.Tests.{from_true}
 use Rattle.costs.specs.Choices.{Smaller}
 use Rattle.costs.specs.Estimates.{not_above}
-use Rattle.costs.specs.declared.estimate.Estimate.{Estimate}
-use Rattle.costs.specs.declared.estimate.Estimate.TheVariants.{Never}
+use Rattle.costs.specs.Estimates.{Estimate}
 use Rattle.costs.specs.declared.tally.Tally.{Ghosts}
 use Rattle.bounds.specs.Sound.{NotAbove}
 use Rattle.tables.specs.Reading.{Two, place_of_single, place_of_pair}
@@ -17,13 +16,13 @@ use Rattle.tables.proofs.Falls.{lowers_at}
 use Rattle.tables.proofs.Order as order
 use Rattle.tables.proofs.Order.{LawsOf}
 
-pub single_inside : {V : Type 0} (facts : ℕ) (table : List (Estimate V)) (k : ℕ) → k < facts → place_of_single facts table k ≡ get_or table k Never
+pub single_inside : {V : Type 0} (facts : ℕ) (table : List (Estimate V)) (k : ℕ) → k < facts → place_of_single facts table k ≡ get_or table k None
 unfolding place_of_single
-single_inside facts table k l = cond-true (ltb k facts) (get_or table k Never) Never (lt-ltb k facts l)
+single_inside facts table k l = cond-true (ltb k facts) (get_or table k None) None (lt-ltb k facts l)
 
-pub single_past : {V : Type 0} (facts : ℕ) (table : List (Estimate V)) (k : ℕ) → facts ≤ k → place_of_single facts table k ≡ Never
+pub single_past : {V : Type 0} (facts : ℕ) (table : List (Estimate V)) (k : ℕ) → facts ≤ k → place_of_single facts table k ≡ None
 unfolding place_of_single
-single_past facts table k l = cond-false (ltb k facts) (get_or table k Never) Never (le-ltb k facts l)
+single_past facts table k l = cond-false (ltb k facts) (get_or table k None) None (le-ltb k facts l)
 
 -- place p is lowered
 module _ {V : Type 0} {tally : Ghosts V} (laws : LawsOf tally) (facts : ℕ) (table new : List (Estimate V)) (p : ℕ) (offer : Estimate V) (inside : p < facts) (fits : facts ≤ length table)
@@ -31,15 +30,15 @@ module _ {V : Type 0} {tally : Ghosts V} (laws : LawsOf tally) (facts : ℕ) (ta
   pub single_lowered : Lowers tally (λ k. (k < facts) × (k ≡ p)) offer (place_of_single facts table) (place_of_single facts new)
   single_lowered = subst (λ t. Lowers tally (λ k. (k < facts) × (k ≡ p)) offer (place_of_single facts table) (place_of_single facts t)) (sym l.wrote)
       (lowers_at laws p l.to (inside, refl) (λ k h. h.1) (λ k. cases_eq k p)
-      (single_inside facts (set table p l.to) p inside ∙ get_or-set_same table p l.to Never (omega arith))
-      (λ k ne. ⊎_elim (λ i. single_inside facts (set table p l.to) k i ∙ get_or-set_other table p k l.to Never ne ∙ sym (single_inside facts table k i))
+      (single_inside facts (set table p l.to) p inside ∙ get_or-set_same table p l.to None (omega arith))
+      (λ k ne. ⊎_elim (λ i. single_inside facts (set table p l.to) k i ∙ get_or-set_other table p k l.to None ne ∙ sym (single_inside facts table k i))
       (λ i. single_past facts (set table p l.to) k i ∙ sym (single_past facts table k i)) (cases_lt k facts))
       (subst (λ x. Smaller (not_above tally.at_most) x offer l.to) (sym (single_inside facts table p inside)) l.smaller))
 
 -- a place below `count` is lowered
 pub lowered_past : {V : Type 0} {tally : Ghosts V} (count : ℕ) (table new : List (Estimate V)) (p : ℕ) (offer : Estimate V) → p < count → LowersAt tally p offer table new → SamePast count table new
 lowered_past count table new p offer inside l =
-    subst (λ t. SamePast count table t) (sym l.wrote) (λ k h. let ne : k ≢ p = omega arith in get_or-set_other table p k l.to Never ne)
+    subst (λ t. SamePast count table t) (sym l.wrote) (λ k h. let ne : k ≢ p = omega arith in get_or-set_other table p k l.to None ne)
 
 pub same_two : (k : Two) (p q : ℕ) → k.0 ≡ p → k.1 ≡ q → k ≡ (p, q)
 same_two k p q a b = λ i. (a i, b i)
@@ -60,11 +59,11 @@ apart facts p q a b x y e =
     (sym (div-mul-add p facts q x) ∙ ap (λ z. z / facts) e ∙ div-mul-add a facts b y, sym (mod-mul-add p facts q x) ∙ ap (λ z. z % facts) e ∙ mod-mul-add a facts b y)
 
 module _ {V : Type 0} (facts : ℕ) where
-  pub pair_inside : (table : List (Estimate V)) (k : Two) → k.0 < facts → k.1 < facts → place_of_pair facts table k ≡ get_or table (k.0 * facts + k.1) Never
+  pub pair_inside : (table : List (Estimate V)) (k : Two) → k.0 < facts → k.1 < facts → place_of_pair facts table k ≡ get_or table (k.0 * facts + k.1) None
   unfolding place_of_pair
   pair_inside table k a b = cond-true _ _ _ (and_from _ _ (lt-ltb k.0 facts a) (lt-ltb k.1 facts b))
 
-  pub pair_outside : (table : List (Estimate V)) (k : Two) → (facts ≤ k.0) ⊎ (facts ≤ k.1) → place_of_pair facts table k ≡ Never
+  pub pair_outside : (table : List (Estimate V)) (k : Two) → (facts ≤ k.0) ⊎ (facts ≤ k.1) → place_of_pair facts table k ≡ None
   unfolding place_of_pair
   pair_outside table k (inl a) = cond-false _ _ _ (and_left _ (ltb k.1 facts) (le-ltb k.0 facts a))
   pair_outside table k (inr b) = cond-false _ _ _ (and_right (ltb k.0 facts) _ (le-ltb k.1 facts b))
@@ -76,14 +75,14 @@ module _ {V : Type 0} {tally : Ghosts V} (laws : LawsOf tally) (facts : ℕ) (ta
   elsewhere k ne =
       ⊎_elim
       (λ i. let off : (k.0 * facts + k.1) ≢ (p * facts + q) = λ x. let y = apart facts k.0 k.1 p q i.1 q_in x in ne (same_two k p q y.0 y.1) in
-      pair_inside facts (set table (p * facts + q) l.to) k i.0 i.1 ∙ get_or-set_other table (p * facts + q) (k.0 * facts + k.1) l.to Never off ∙ sym (pair_inside facts table k i.0 i.1))
+      pair_inside facts (set table (p * facts + q) l.to) k i.0 i.1 ∙ get_or-set_other table (p * facts + q) (k.0 * facts + k.1) l.to None off ∙ sym (pair_inside facts table k i.0 i.1))
       (λ o. pair_outside facts (set table (p * facts + q) l.to) k o ∙ sym (pair_outside facts table k o))
       (two_cases facts k)
 
   pub pair_lowered : Lowers tally (λ k. (k.0 < facts) × (k.1 < facts) × (k ≡ (p, q))) offer (place_of_pair facts table) (place_of_pair facts new)
   pair_lowered = subst (λ t. Lowers tally (λ k. (k.0 < facts) × (k.1 < facts) × (k ≡ (p, q))) offer (place_of_pair facts table) (place_of_pair facts t)) (sym l.wrote)
       (lowers_at laws (p, q) l.to (p_in, q_in, refl) (λ k h. h.2) (λ k. two_or_not k p q)
-      (pair_inside facts (set table (p * facts + q) l.to) (p, q) p_in q_in ∙ get_or-set_same table (p * facts + q) l.to Never (omega (arith, mul-add-lt p facts q facts p_in q_in)))
+      (pair_inside facts (set table (p * facts + q) l.to) (p, q) p_in q_in ∙ get_or-set_same table (p * facts + q) l.to None (omega (arith, mul-add-lt p facts q facts p_in q_in)))
       elsewhere
       (subst (λ x. Smaller (not_above tally.at_most) x offer l.to) (sym (pair_inside facts table (p, q) p_in q_in)) l.smaller))
 
@@ -100,13 +99,13 @@ upto_write d f old i new x u l e = (
 -- the least open place so far
 module _ {V : Type 0} {tally : Ghosts V} (laws : LawsOf tally) (done : List Bool) (table : List (Estimate V)) where
   abbrev pub Lowest : ℕ → Estimate V → Type 0
-  Lowest i best = (v : ℕ) → v < i → get_or done v false ≡ false → NotAbove tally best (get_or table v Never)
+  Lowest i best = (v : ℕ) → v < i → get_or done v false ≡ false → NotAbove tally best (get_or table v None)
 
-  pub lowest_takes : (i : ℕ) (best e : Estimate V) → Lowest i best → not_above tally.at_most best e ≡ false → e ≡ get_or table i Never → Lowest (i + 1) e
+  pub lowest_takes : (i : ℕ) (best e : Estimate V) → Lowest i best → not_above tally.at_most best e ≡ false → e ≡ get_or table i None → Lowest (i + 1) e
   lowest_takes i best e low less is =
-      below_more _ i (λ v h d. order.transitive laws e best (get_or table v Never) (order.total laws best e less) (low v h d)) (λ d. order.same laws is)
+      below_more _ i (λ v h d. order.transitive laws e best (get_or table v None) (order.total laws best e less) (low v h d)) (λ d. order.same laws is)
 
-  pub lowest_keeps : (i : ℕ) (best e : Estimate V) → Lowest i best → not_above tally.at_most best e ≡ true → e ≡ get_or table i Never → Lowest (i + 1) best
+  pub lowest_keeps : (i : ℕ) (best e : Estimate V) → Lowest i best → not_above tally.at_most best e ≡ true → e ≡ get_or table i None → Lowest (i + 1) best
   lowest_keeps i best e low more is = below_more _ i low (λ d. subst (λ x. NotAbove tally best x) is (from_true more))
 
   pub lowest_passes : (i : ℕ) (best : Estimate V) → Lowest i best → (get_or done i false ≡ false → ⊥) → Lowest (i + 1) best
@@ -115,7 +114,7 @@ module _ {V : Type 0} {tally : Ghosts V} (laws : LawsOf tally) (done : List Bool
   -- the least open place so far, and where it stands
   abbrev pub Choice : ℕ → ℕ → Estimate V → ℕ → Type 0
   Choice count i best chosen =
-      Lowest i best × ((best ≡ Never) ⊎ ((chosen < count) × (get_or done chosen false ≡ false) × (best ≡ get_or table chosen Never)))
+      Lowest i best × ((best ≡ None) ⊎ ((chosen < count) × (get_or done chosen false ≡ false) × (best ≡ get_or table chosen None)))
 
 -- how many places are open
 abbrev pub undone : List Bool → ℕ

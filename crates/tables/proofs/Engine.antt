@@ -1,11 +1,10 @@
 -- Settling the cheapest place first gives the greatest solution: what holds at each step.
-use Rattle.std.proofs.Common.{◌≡◌, ℕ, Bool, false, T, ◌⊎◌, sym, refl, ap, ◌∙◌, subst, inl, inr, ⊎_elim}
+use Rattle.std.proofs.Common.{◌≡◌, ℕ, Bool, false, T, ◌⊎◌, sym, refl, ap, ◌∙◌, subst, inl, inr, ⊎_elim, None, Some}
 use Rattle.std.proofs.lemmas.Bool.{cases_Bool}
 use Rattle.facts.specs.declared.sets.FactSet.{FactSet}
 use Rattle.facts.proofs.Tests.{from_true, not_both}
 use Rattle.tasks.specs.declared.moves.Move.{Move}
-use Rattle.costs.specs.declared.estimate.Estimate.{Estimate}
-use Rattle.costs.specs.declared.estimate.Estimate.TheVariants.{Value, Never}
+use Rattle.costs.specs.Estimates.{Estimate}
 use Rattle.bounds.specs.Sound.{NotAbove}
 use Rattle.tables.specs.Equation.{charge_if_counted, offer_of}
 use Rattle.tables.specs.Reading.{Top}
@@ -34,7 +33,7 @@ module _ {V K : Type 0} (n : Net V K) (laws : LawsOf n.tally) (tops : Tops n) wh
   pub via_above : (m : Move) (val : K → Estimate V) (t : FactSet) → Le (n.est val t) (via n m val t)
   via_above m val t = order.join_above laws (charge_if_counted n.tally n.setting.groups m) (n.est val t)
 
-  pub via_never : (m : Move) (val : K → Estimate V) (t : FactSet) (e : Estimate V) → n.est val t ≡ Never → Le e (via n m val t)
+  pub via_never : (m : Move) (val : K → Estimate V) (t : FactSet) (e : Estimate V) → n.est val t ≡ None → Le e (via n m val t)
   via_never m val t e is = order.join_never laws (charge_if_counted n.tally n.setting.groups m) (n.est val t) e is
 
   -- a lower table gives lower estimates
@@ -80,7 +79,7 @@ module _ {V K : Type 0} (n : Net V K) (laws : LawsOf n.tally) (tops : Tops n) wh
       backed_at y e is (kept p) = still y (sym is ∙ p) (sure.backed y)
       backed_at y e is (lowered j m t s f p l) = stepped j m t s (subst (λ x. Le (via n m new t) x) (sym p ∙ is) (via_mono m val new t (λ k i. fell k)))
 
-      absent_at : (k : K) → (n.Present k → ⊥) → (e : Estimate V) → Moved n fresh val k e → e ≡ Never
+      absent_at : (k : K) → (n.Present k → ⊥) → (e : Estimate V) → Moved n fresh val k e → e ≡ None
       absent_at k out e (kept p) = p ∙ sure.absent k out
       absent_at k out e (lowered j m t s f p l) = absurd (out s.present)
 
@@ -88,7 +87,7 @@ module _ {V K : Type 0} (n : Net V K) (laws : LawsOf n.tally) (tops : Tops n) wh
       sure_moved = record {
         above = λ h u k. above_at h u k (new k) (moved k);
         backed = λ y. backed_at y (new y) refl (moved y);
-        begun = λ k b. order.antisymmetric laws (new k) (Value n.tally.nil) (subst (λ x. Le (new k) x) (sure.begun k b) (fell k)) (order.least laws (new k));
+        begun = λ k b. order.antisymmetric laws (new k) (Some n.tally.nil) (subst (λ x. Le (new k) x) (sure.begun k b) (fell k)) (order.least laws (new k));
         absent = λ k out. absent_at k out (new k) (moved k);
       }
 
@@ -153,7 +152,7 @@ module _ {V K : Type 0} (n : Net V K) (laws : LawsOf n.tally) (tops : Tops n) wh
 
   -- before the first place is settled, every set is fresh
   pub round_first : (fresh : FactSet → Bool) (done : K → Bool) (Seen : ℕ → K → Type 0) (val : K → Estimate V) → Sure n val → ((t : FactSet) → T (fresh t)) → ((k : K) → done k ≡ false)
-      → ((j : ℕ) (y : K) → Seen j y → ⊥) → Relaxing n fresh done (Value n.tally.nil) Seen val
+      → ((j : ℕ) (y : K) → Seen j y → ⊥) → Relaxing n fresh done (Some n.tally.nil) Seen val
   round_first fresh done Seen val sure all none unseen = record {
     sure = sure;
     low = λ u d. absurd (not_both d (none u));
@@ -179,9 +178,9 @@ module _ {V K : Type 0} (n : Net V K) (laws : LawsOf n.tally) (tops : Tops n) wh
   }
 
   -- when no open place has a value, every step is allowed for
-  pub ends : (val : K → Estimate V) (done : K → Bool) → Settling n val done → ((v : K) → done v ≡ false → val v ≡ Never)
+  pub ends : (val : K → Estimate V) (done : K → Bool) → Settling n val done → ((v : K) → done v ≡ false → val v ≡ None)
       → (j : ℕ) (m : Move) (y : K) (t : FactSet) → Step n j m y t → Le (val y) (via n m val t)
   ends val done s out j m y t st =
-      let never : (k : K) → n.In t k → done k ≡ false → n.est val t ≡ Never =
-      λ k i d. order.antisymmetric laws (n.est val t) Never (order.top laws (n.est val t)) (subst (λ x. Le x (n.est val t)) (out k d) ((tops val t).upper k i)) in
+      let never : (k : K) → n.In t k → done k ≡ false → n.est val t ≡ None =
+      λ k i d. order.antisymmetric laws (n.est val t) None (order.top laws (n.est val t)) (subst (λ x. Le x (n.est val t)) (out k d) ((tops val t).upper k i)) in
       stable _ (λ fails. fails (s.closed j m y t st (λ k i. ⊎_elim from_true (λ d. absurd (fails (via_never m val t (val y) (never k i d)))) (cases_Bool (done k)))))

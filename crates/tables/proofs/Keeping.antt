@@ -1,5 +1,5 @@
 -- The rules as they are tested.
-use Rattle.std.proofs.Common.{◌≡◌, ℕ, Bool, true, false, ◌&&◌, T, eqb, List, [], ◌∷◌, Decides, sym, refl, ap, ◌∙◌, subst}
+use Rattle.std.proofs.Common.{◌≡◌, ℕ, Bool, true, false, ◌&&◌, T, eqb, List, [], ◌∷◌, Decides, sym, refl, ap, ◌∙◌, subst, Some}
 use Rattle.facts.specs.Sets.{has}
 use Rattle.facts.specs.declared.sets.FactSet.{FactSet}
 use Rattle.facts.proofs.Tests.{from_true, to_true}
@@ -7,8 +7,7 @@ use Rattle.tasks.specs.Places.{At}
 use Rattle.tasks.specs.Tasks.{facts_of, start_of, moves_of}
 use Rattle.tasks.specs.declared.moves.Move.{Move}
 use Rattle.tasks.specs.declared.task.Task.{Task}
-use Rattle.costs.specs.declared.estimate.Estimate.{Estimate}
-use Rattle.costs.specs.declared.estimate.Estimate.TheVariants.{Value}
+use Rattle.costs.specs.Estimates.{Estimate}
 use Rattle.costs.specs.declared.tally.Tally.{Ghosts}
 use Rattle.bounds.specs.Sound.{NotAbove, Sound}
 use Rattle.tables.specs.Equation.{Setting, offer_of}
@@ -57,14 +56,14 @@ task_tells b t = decides_like (λ w. record { facts = w.0; start = w.1.0; moves 
 module _ {V : Type 0} {tally : Ghosts V} (laws : LawsOf tally) (b : Setting) (val : ℕ → Estimate V) where
   -- the facts of the start are nil, and each head is at most what its move offers
   abbrev pub StartTested : Type 0
-  StartTested = (p : ℕ) → T (has b.start p) → NotAbove tally (val p) (Value tally.nil)
+  StartTested = (p : ℕ) → T (has b.start p) → NotAbove tally (val p) (Some tally.nil)
 
   abbrev pub MoveTested : Move → Type 0
   MoveTested m = (p : ℕ) → T (has m.makes p) → (T (has m.breaks p) → ⊥) → NotAbove tally (val p) (offer_of tally b m (estimate_by_singles tally val m.needs))
 
   pub rules_from : StartTested → ((j : ℕ) (m : Move) → At b.moves j m → MoveTested m) → SingleRules tally b val
   rules_from start moves = record {
-    start = λ p h. order.antisymmetric laws (val p) (Value tally.nil) (start p h) (order.least laws (val p));
+    start = λ p h. order.antisymmetric laws (val p) (Some tally.nil) (start p h) (order.least laws (val p));
     moves = λ j m p s t at only r. let w = single_needs m s t p only r in
         subst (λ u. NotAbove tally (val p) (offer_of tally b m (estimate_by_singles tally val u))) (sym w.2) (moves j m at p w.0 w.1);
   }

@@ -1,5 +1,5 @@
 -- The rules of a pair table as they are tested.
-use Rattle.std.proofs.Common.{◌≡◌, ℕ, ◌<◌, ◌≤◌, Bool, ◌&&◌, T, ◌⊎◌, Decides, sym, ap, ◌∙◌, subst, inl, inr, ⊎_elim}
+use Rattle.std.proofs.Common.{◌≡◌, ℕ, ◌<◌, ◌≤◌, Bool, ◌&&◌, T, ◌⊎◌, Decides, sym, ap, ◌∙◌, subst, inl, inr, ⊎_elim, None, Some}
 use Rattle.std.proofs.lemmas.Bool.{cases_Bool, cases_lt}
 use Rattle.facts.specs.Sets.{has}
 use Rattle.facts.specs.declared.sets.FactSet.{FactSet}
@@ -9,8 +9,7 @@ use Rattle.tasks.specs.Places.{At}
 use Rattle.tasks.specs.declared.moves.Move.{Move}
 use Rattle.tasks.specs.declared.task.Task.{Task}
 use Rattle.tasks.proofs.Bearing.{regresses_same, regresses_swaps, swap_added, swap_kept}
-use Rattle.costs.specs.declared.estimate.Estimate.{Estimate}
-use Rattle.costs.specs.declared.estimate.Estimate.TheVariants.{Value, Never}
+use Rattle.costs.specs.Estimates.{Estimate}
 use Rattle.costs.specs.declared.tally.Tally.{Ghosts}
 use Rattle.bounds.specs.Sound.{NotAbove, Sound}
 use Rattle.tables.specs.Equation.{Setting, offer_of}
@@ -37,7 +36,7 @@ module _ {V : Type 0} {tally : Ghosts V} (laws : LawsOf tally) (b : Setting) (va
   offer m e = offer_of tally b m e
 
   abbrev pub StartTested : Type 0
-  StartTested = (r : ℕ) → T (has b.start r) → (p : ℕ) → T (has b.start p) → Le (val (p, r)) (Value tally.nil)
+  StartTested = (r : ℕ) → T (has b.start r) → (p : ℕ) → T (has b.start p) → Le (val (p, r)) (Some tally.nil)
 
   -- a head alone
   abbrev pub AloneTested : Move → Type 0
@@ -58,7 +57,7 @@ module _ {V : Type 0} {tally : Ghosts V} (laws : LawsOf tally) (b : Setting) (va
       (decides_every _ (λ r. decides_or_not (has m.breaks r) _ (decides_every_head _ (λ p. decides_test _) m)) b.facts)
 
   -- a place that the table has not is never
-  module _ (out : (k : Two) → (b.facts ≤ k.0) ⊎ (b.facts ≤ k.1) → val k ≡ Never) where
+  module _ (out : (k : Two) → (b.facts ≤ k.0) ⊎ (b.facts ≤ k.1) → val k ≡ None) where
     pub turned_from : RowsTested → (p q : ℕ) → val (p, q) ≡ val (q, p)
     turned_from rows p q = ⊎_elim
         (λ i. order.antisymmetric laws (val (p, q)) (val (q, p)) (rows p i.0 q i.1).1 (rows q i.1 p i.0).1)
@@ -70,7 +69,7 @@ module _ {V : Type 0} {tally : Ghosts V} (laws : LawsOf tally) (b : Setting) (va
     -- a head beside a fact that the table has not
     outside : (m : Move) (s t : FactSet) (p r : ℕ) → AloneTested m → Both s (p, r) → Regresses m s t → b.facts ≤ r → Le (val (p, r)) (via (pairs tally b) m val t)
     outside m s t p r alone both g l =
-        let never : val (r, r) ≡ Never = out (r, r) (inl l) in
+        let never : val (r, r) ≡ None = out (r, r) (inl l) in
         let to : Le (val (r, r)) (via (pairs tally b) m val t) → Le (val (p, r)) (via (pairs tally b) m val t) =
         λ h. subst (λ x. Le x (via (pairs tally b) m val t)) (never ∙ sym (out (p, r) (inr l))) h in
         ⊎_elim
@@ -92,7 +91,7 @@ module _ {V : Type 0} {tally : Ghosts V} (laws : LawsOf tally) (b : Setting) (va
 
     pub rules_from : StartTested → ((j : ℕ) (m : Move) → At b.moves j m → MoveTested m) → RowsTested → PairRules tally b val
     rules_from start moves rows = record {
-      start = λ k x y. order.antisymmetric laws (val k) (Value tally.nil) (start k.1 y k.0 x) (order.least laws (val k));
+      start = λ k x y. order.antisymmetric laws (val k) (Some tally.nil) (start k.1 y k.0 x) (order.least laws (val k));
       moves = λ j m k s t at both g. ⊎_elim
           (λ head. first_from m s t k.0 k.1 (moves j m at) both g head)
           (λ head. subst (λ x. Le x (via (pairs tally b) m val t)) (turned_from rows k.1 k.0) (first_from m s t k.1 k.0 (moves j m at) (both_turned k.0 k.1 both) g head))
@@ -117,7 +116,7 @@ module _ {V : Type 0} {tally : Ghosts V} (laws : LawsOf tally) (b : Setting) (va
   pub rows_from : PairRules tally b val → RowsTested
   rows_from rules p l q k = (rules.single p q, order.same laws (rules.turned p q))
 
-  module _ (out : (k : Two) → (b.facts ≤ k.0) ⊎ (b.facts ≤ k.1) → val k ≡ Never) where
+  module _ (out : (k : Two) → (b.facts ≤ k.0) ⊎ (b.facts ≤ k.1) → val k ≡ None) where
     pub pair_tells : Decides (keeps_pair tally b val) (PairRules tally b val)
     pair_tells = decides_like
         (λ w. rules_from out (λ r y p x. w.0 p x r y) w.1.0 w.1.1) (λ rules. ((λ p x q y. start_from rules q y p x), (move_from rules, rows_from rules)))

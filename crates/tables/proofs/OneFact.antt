@@ -11,8 +11,7 @@ use Rattle.tasks.specs.Places.{At}
 use Rattle.tasks.specs.declared.moves.Move.{Move}
 use Rattle.tasks.proofs.Places.{at_same, at_less}
 use Rattle.tasks.proofs.Bearing.{regresses_swaps, swap_added, swap_cases}
-use Rattle.costs.specs.declared.estimate.Estimate.{Estimate}
-use Rattle.costs.specs.declared.estimate.Estimate.TheVariants.{Value, Never}
+use Rattle.costs.specs.Estimates.{Estimate}
 use Rattle.costs.specs.declared.tally.Tally.{Ghosts}
 use Rattle.bounds.specs.Sound.{NotAbove}
 use Rattle.tables.specs.Equation.{Setting, offer_of}
@@ -121,15 +120,15 @@ module _ {V : Type 0} {tally : Ghosts V} (laws : LawsOf tally) (b : Setting) whe
   abbrev value : List (Estimate V) → ℕ → Estimate V
   value table = place_of_single b.facts table
 
-  module _ (table : List (Estimate V)) (wrote : (k : ℕ) → k < b.facts → get_or table k Never ≡ cond (has b.start k) (Value tally.nil) Never) where
-    nil_at : (k : ℕ) → k < b.facts → T (has b.start k) → value table k ≡ Value tally.nil
+  module _ (table : List (Estimate V)) (wrote : (k : ℕ) → k < b.facts → get_or table k None ≡ cond (has b.start k) (Some tally.nil) None) where
+    nil_at : (k : ℕ) → k < b.facts → T (has b.start k) → value table k ≡ Some tally.nil
     nil_at k l h = single_inside b.facts table k l ∙ wrote k l ∙ cond-true (has b.start k) _ _ (to_true h)
 
-    never_at : (k : ℕ) → k < b.facts → has b.start k ≡ false → value table k ≡ Never
+    never_at : (k : ℕ) → k < b.facts → has b.start k ≡ false → value table k ≡ None
     never_at k l h = single_inside b.facts table k l ∙ wrote k l ∙ cond-false (has b.start k) _ _ h
 
     -- nil in the start, never elsewhere
-    begin_cases : (k : ℕ) → ((k < b.facts) × T (has b.start k)) ⊎ (value table k ≡ Never)
+    begin_cases : (k : ℕ) → ((k < b.facts) × T (has b.start k)) ⊎ (value table k ≡ None)
     begin_cases k = ⊎_elim
         (λ l. ⊎_elim (λ e. inl (l, from_true e)) (λ e. inr (never_at k l e)) (cases_Bool (has b.start k)))
         (λ l. inr (single_past b.facts table k l)) (cases_lt k b.facts)
@@ -149,8 +148,8 @@ module _ {V : Type 0} {tally : Ghosts V} (laws : LawsOf tally) (b : Setting) whe
         → Turned (singles tally b) (λ t. touches None (has t)) (Before 0) (Before (length b.moves)) (value table) (value new)
         → Settling (singles tally b) (value new) (λ k. get_or done k false)
     singles_first new done none r =
-        round_ends (singles tally b) laws singles_tops (λ t. touches None (has t)) (λ k. get_or done k false) (Value tally.nil) (Before (length b.moves)) (value new) (λ j m y t st. at_less st.at)
-        (r.runs (λ k. get_or done k false) (Value tally.nil)
+        round_ends (singles tally b) laws singles_tops (λ t. touches None (has t)) (λ k. get_or done k false) (Some tally.nil) (Before (length b.moves)) (value new) (λ j m y t st. at_less st.at)
+        (r.runs (λ k. get_or done k false) (Some tally.nil)
         (round_first (singles tally b) laws singles_tops (λ t. touches None (has t)) (λ k. get_or done k false) (Before 0) (value table) sure_first (λ t. tt) none (λ j y l. omega arith)))
 
   -- a round, in which place u is settled
@@ -159,7 +158,7 @@ module _ {V : Type 0} {tally : Ghosts V} (laws : LawsOf tally) (b : Setting) whe
     least_at v d =
         ⊎_elim
         (λ l. subst (λ x. NotAbove tally x (value old v)) (sym (single_inside b.facts old u picked.inside))
-        (subst (λ x. NotAbove tally (get_or old u Never) x) (sym (single_inside b.facts old v l)) (picked.least v l d)))
+        (subst (λ x. NotAbove tally (get_or old u None) x) (sym (single_inside b.facts old v l)) (picked.least v l d)))
         (λ l. subst (λ x. NotAbove tally (value old u) x) (sym (single_past b.facts old v l)) (order.top laws (value old u)))
         (cases_lt v b.facts)
 
@@ -180,9 +179,9 @@ module _ {V : Type 0} {tally : Ghosts V} (laws : LawsOf tally) (b : Setting) whe
 
   -- when no open place has a value
   pub singles_end : Known b → (table : List (Estimate V)) (done : ℕ → Bool) → Settling (singles tally b) (value table) done
-      → ((v : ℕ) → v < b.facts → done v ≡ false → get_or table v Never ≡ Never) → SinglesTable tally b table
+      → ((v : ℕ) → v < b.facts → done v ≡ false → get_or table v None ≡ None) → SinglesTable tally b table
   singles_end known table done s out =
-      let never : (v : ℕ) → done v ≡ false → value table v ≡ Never =
+      let never : (v : ℕ) → done v ≡ false → value table v ≡ None =
       λ v d. ⊎_elim (λ l. single_inside b.facts table v l ∙ out v l d) (λ l. single_past b.facts table v l) (cases_lt v b.facts) in
       let closed = ends (singles tally b) laws singles_tops (value table) done s never in
       let own_is = single_own (value table) in

@@ -1,10 +1,9 @@
 -- The order of estimates and their joins, from the laws of a tally.
-use Rattle.std.proofs.Common.{◌≡◌, Bool, true, false, T, sym, subst}
+use Rattle.std.proofs.Common.{◌≡◌, Bool, true, false, T, sym, subst, None, Some}
 use Rattle.costs.specs.Choices.{Larger, larger_of}
 use Rattle.costs.specs.Estimates.{not_above}
 use Rattle.costs.specs.Laws.{Lawful}
-use Rattle.costs.specs.declared.estimate.Estimate.{Estimate}
-use Rattle.costs.specs.declared.estimate.Estimate.TheVariants.{Value, Never}
+use Rattle.costs.specs.Estimates.{Estimate}
 use Rattle.costs.specs.declared.tally.Tally.{Ghosts}
 use Rattle.costs.specs.EstimatesLemmas as estimates
 use Rattle.costs.proofs.Orders as orders
@@ -34,20 +33,20 @@ module _ {V : Type 0} {tally : Ghosts V} (laws : LawsOf tally) where
   pub total : (e f : Estimate V) → not_above tally.at_most e f ≡ false → NotAbove tally f e
   total e f p = (estimates.estimates_lawful laws.lawful).total e f p
 
-  pub top : (e : Estimate V) → NotAbove tally e Never
+  pub top : (e : Estimate V) → NotAbove tally e None
   top = estimates.top laws.lawful
 
-  pub least : (e : Estimate V) → NotAbove tally (Value tally.nil) e
+  pub least : (e : Estimate V) → NotAbove tally (Some tally.nil) e
   least e = (estimates.estimates_lawful laws.lawful).least e
 
   pub join_mono : (c : V) (e f : Estimate V) → NotAbove tally e f → NotAbove tally (joined_with tally c e) (joined_with tally c f)
-  join_mono c e f p = orders.join_mono_right (estimates.estimates_lawful laws.lawful) (Value c) e f p
+  join_mono c e f p = orders.join_mono_right (estimates.estimates_lawful laws.lawful) (Some c) e f p
 
   -- a join is at least its part
   pub join_above : (c : V) (e : Estimate V) → NotAbove tally e (joined_with tally c e)
-  join_above c e = orders.up_right (estimates.estimates_lawful laws.lawful) (Value c) e
+  join_above c e = orders.up_right (estimates.estimates_lawful laws.lawful) (Some c) e
 
-  pub join_never : (c : V) (e f : Estimate V) → e ≡ Never → NotAbove tally f (joined_with tally c e)
+  pub join_never : (c : V) (e f : Estimate V) → e ≡ None → NotAbove tally f (joined_with tally c e)
   join_never c e f p = subst (λ x. NotAbove tally f (joined_with tally c x)) (sym p) (top f)
 
   pub larger : (e f : Estimate V) → Larger (not_above tally.at_most) e f (larger_of (not_above tally.at_most) e f)

@@ -1,13 +1,12 @@
 -- Settled values solve the equation, and no solution is above them: for single facts, pairs, or any small sets.
-use Rattle.std.proofs.Common.{◌≡◌, ℕ, ◌<◌, ◌≤◌, T, ◌⊎◌, [], sym, refl, ap, ◌∙◌, subst, inl, inr, ⊎_elim, arith}
+use Rattle.std.proofs.Common.{◌≡◌, ℕ, ◌<◌, ◌≤◌, T, ◌⊎◌, [], sym, refl, ap, ◌∙◌, subst, inl, inr, ⊎_elim, arith, None, Some}
 use Rattle.facts.specs.Sets.{has, Within}
 use Rattle.facts.specs.declared.sets.FactSet.{FactSet}
 use Rattle.tasks.specs.Moves.{Regresses}
 use Rattle.tasks.specs.Places.{At}
 use Rattle.tasks.specs.declared.moves.Move.{Move}
 use Rattle.tasks.proofs.Bearing.{regresses_swaps, swap_kept}
-use Rattle.costs.specs.declared.estimate.Estimate.{Estimate}
-use Rattle.costs.specs.declared.estimate.Estimate.TheVariants.{Value, Never}
+use Rattle.costs.specs.Estimates.{Estimate}
 use Rattle.bounds.specs.Sound.{NotAbove}
 use Rattle.tables.specs.Equation.{Setting, Few, Least, Offers, Parts, Solves, Greatest, offer_of}
 use Rattle.tables.specs.Settling.{Net, Step, via, Under, Backed, unreached, begun, stepped, Sure}
@@ -53,7 +52,7 @@ module _ {V K : Type 0} (n : Net V K) (size : ℕ) (laws : LawsOf n.tally) (tops
   module _ (known : Known b) (val : K → Estimate V) (sure : Sure n val)
       (closed : (j : ℕ) (m : Move) (y : K) (t : FactSet) → Step n j m y t → Le (val y) (via n m val t)) where
     -- no fact of the start lies past the table
-    pub nil_start : (k : K) → n.In b.start k → val k ≡ Value n.tally.nil
+    pub nil_start : (k : K) → n.In b.start k → val k ≡ Some n.tally.nil
     nil_start k i = ⊎_elim (λ p. sure.begun k (p, i))
         (λ out. let u = shape.set_of k in let x = shape.past_fact k u.0 u.1 out in
         absurd (omega (arith, known.start x.0 (shape.in_within b.start k u.0 u.1 i x.0 x.1), x.2)))
@@ -66,7 +65,7 @@ module _ {V K : Type 0} (n : Net V K) (size : ℕ) (laws : LawsOf n.tally) (tops
         (λ out. let x = shape.past_fact k s names out in
         let stays = swap_kept (regresses_swaps r) x.0 x.1 (λ made. omega (arith, known.makes j m at x.0 made, x.2)) in
         let l = shape.past_place t x.0 stays x.2 in
-        via_never n laws tops m val t (val k) (order.antisymmetric laws (n.est val t) Never (order.top laws (n.est val t))
+        via_never n laws tops m val t (val k) (order.antisymmetric laws (n.est val t) None (order.top laws (n.est val t))
         (subst (λ e. Le e (n.est val t)) (sure.absent l.0 l.2) ((tops val t).upper l.0 l.1))))
         (shape.present_or_not k)
 
@@ -74,11 +73,11 @@ module _ {V K : Type 0} (n : Net V K) (size : ℕ) (laws : LawsOf n.tally) (tops
       abbrev est : FactSet → Estimate V
       est s = n.est val s
 
-      nil_within : (s : FactSet) → Within s b.start → est s ≡ Value n.tally.nil
+      nil_within : (s : FactSet) → Within s b.start → est s ≡ Some n.tally.nil
       nil_within s w =
           ⊎_elim (λ e. e) (λ k. k.2 ∙ nil_start k.0 (in_larger s b.start w k.0 k.1)) (tops val s).reached
 
-      offered : (k : K) (s : FactSet) → n.Names k s → (Within s b.start → ⊥) → Backed n val k → Offers n.tally b est s (est s) ⊎ (est s ≡ Never)
+      offered : (k : K) (s : FactSet) → n.Names k s → (Within s b.start → ⊥) → Backed n val k → Offers n.tally b est s (est s) ⊎ (est s ≡ None)
       offered k s names out (unreached e) = inr (own k s names ∙ e)
       offered k s names out (begun i) = absurd (out (shape.in_within b.start k s names i.1))
       offered k s names out (stepped j m t st l) =

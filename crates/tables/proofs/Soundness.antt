@@ -1,5 +1,5 @@
 -- A table that keeps the rules is a bound.
-use Rattle.std.proofs.Common.{◌≡◌, ℕ, zero, suc, ◌≤◌, List, [], ◌∷◌, length, sym, refl, ◌∙◌, subst, ⊎_elim, arith}
+use Rattle.std.proofs.Common.{◌≡◌, ℕ, zero, suc, ◌≤◌, List, [], ◌∷◌, length, sym, refl, ◌∙◌, subst, ⊎_elim, arith, Some}
 use Rattle.facts.specs.Sets.{Within}
 use Rattle.facts.specs.declared.sets.FactSet.{FactSet}
 use Rattle.facts.proofs.Members.{overlap_or_not}
@@ -9,8 +9,7 @@ use Rattle.tasks.specs.Tasks.{start_of, moves_of}
 use Rattle.tasks.specs.declared.moves.Move.{Move}
 use Rattle.tasks.specs.declared.task.Task.{Task}
 use Rattle.tasks.proofs.Bearing.{swapped, swap_added, swap_kept, swap_cases, regresses_swaps}
-use Rattle.costs.specs.declared.estimate.Estimate.{Estimate}
-use Rattle.costs.specs.declared.estimate.Estimate.TheVariants.{Value}
+use Rattle.costs.specs.Estimates.{Estimate}
 use Rattle.costs.specs.declared.tally.Tally.{Ghosts}
 use Rattle.bounds.specs.Sound.{NotAbove, joined_with, Sound}
 use Rattle.tables.specs.Equation.{charge_if_counted}
@@ -36,7 +35,7 @@ narrower : (m : Move) (a s u t : FactSet) → Within a s → Regresses m a u →
 narrower m a s u t w g h f x = ⊎_elim (λ n. swap_added (regresses_swaps h) f n) (λ k. swap_kept (regresses_swaps h) f (w f k.0) k.1) (swap_cases (regresses_swaps g) f x)
 
 module _ {V K : Type 0} (n : Net V K) (size : ℕ) (laws : LawsOf n.tally) (tops : Tops n) (shape : Shape n size) (val : K → Estimate V)
-    (start : (k : K) → n.In n.setting.start k → val k ≡ Value n.tally.nil)
+    (start : (k : K) → n.In n.setting.start k → val k ≡ Some n.tally.nil)
     (moves : (j : ℕ) (m : Move) (k : K) (s t : FactSet) → At n.setting.moves j m → n.Names k s → Regresses m s t → NotAbove n.tally (val k) (via n m val t)) where
   abbrev Le : Estimate V → Estimate V → Type 0
   Le e f = NotAbove n.tally e f

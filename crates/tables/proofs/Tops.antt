@@ -1,13 +1,12 @@
 -- The highest of some places: as a relation, and as a function.
-use Rattle.std.proofs.Common.{◌≡◌, ℕ, zero, suc, ◌<◌, Bool, T, ◌⊎◌, sym, refl, ◌∙◌, subst, inl, inr, ⊎_elim, arith}
+use Rattle.std.proofs.Common.{◌≡◌, ℕ, zero, suc, ◌<◌, Bool, T, ◌⊎◌, sym, refl, ◌∙◌, subst, inl, inr, ⊎_elim, arith, Some}
 use Rattle.std.proofs.lemmas.Bool.{cases_eq, cases_Bool, cond-true, cond-false}
 use Rattle.facts.specs.Sets.{has}
 use Rattle.facts.specs.declared.sets.FactSet.{FactSet}
 use Rattle.facts.proofs.Tests.{from_true, not_both}
 use Rattle.costs.specs.Choices.{Larger}
 use Rattle.costs.specs.Estimates.{not_above}
-use Rattle.costs.specs.declared.estimate.Estimate.{Estimate}
-use Rattle.costs.specs.declared.estimate.Estimate.TheVariants.{Value}
+use Rattle.costs.specs.Estimates.{Estimate}
 use Rattle.costs.specs.declared.tally.Tally.{Ghosts}
 use Rattle.bounds.specs.Sound.{NotAbove}
 use Rattle.tables.specs.Reading.{Two, Top, highest, highest_two, estimate_by_singles, estimate_by_pairs, past}
@@ -16,7 +15,7 @@ use Rattle.tables.proofs.Order.{LawsOf}
 use Rattle.tables.proofs.Subsets.{has_past}
 
 module _ {V K : Type 0} {tally : Ghosts V} (laws : LawsOf tally) {val : K → Estimate V} where
-  pub top_none : {P : K → Type 0} {e : Estimate V} → ((k : K) → P k → ⊥) → e ≡ Value tally.nil → Top tally P val e
+  pub top_none : {P : K → Type 0} {e : Estimate V} → ((k : K) → P k → ⊥) → e ≡ Some tally.nil → Top tally P val e
   top_none out is = record { upper = λ k p. absurd (out k p); reached = inl is }
 
   pub top_one : (k : K) {P : K → Type 0} {e : Estimate V} → P k → ((l : K) → P l → l ≡ k) → e ≡ val k → Top tally P val e

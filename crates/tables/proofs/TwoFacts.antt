@@ -13,8 +13,7 @@ use Rattle.tasks.specs.Places.{At}
 use Rattle.tasks.specs.declared.moves.Move.{Move}
 use Rattle.tasks.proofs.Places.{at_same, at_less}
 use Rattle.tasks.proofs.Bearing.{regresses_swaps, regresses_same, swap_added, swap_kept, swapped}
-use Rattle.costs.specs.declared.estimate.Estimate.{Estimate}
-use Rattle.costs.specs.declared.estimate.Estimate.TheVariants.{Value, Never}
+use Rattle.costs.specs.Estimates.{Estimate}
 use Rattle.costs.specs.declared.tally.Tally.{Ghosts}
 use Rattle.bounds.specs.Sound.{NotAbove}
 use Rattle.tables.specs.Equation.{Setting, offer_of}
@@ -177,14 +176,14 @@ module _ {V : Type 0} {tally : Ghosts V} (laws : LawsOf tally) (b : Setting) whe
     }
 
     -- a move whose needs are never offers nothing
-    pub with_never : (val : Two → Estimate V) → estimate_by_pairs tally val m.needs ≡ Never → Turned (pairs tally b) fresh (Before i) (Before (i + 1)) val val
+    pub with_never : (val : Two → Estimate V) → estimate_by_pairs tally val m.needs ≡ None → Turned (pairs tally b) fresh (Before i) (Before (i + 1)) val val
     with_never val never = record {
       runs = λ done floor r. seen_more (pairs tally b) laws pairs_tops fresh val done floor (Before i) (Before (i + 1))
           (λ j n y t st f l. ⊎_elim
           (λ e. let w = own_step j n y t e st in
           let est = estimate_by_pairs tally val t in
-          let up : NotAbove tally Never est = subst (λ x. NotAbove tally x est) never (est_grows (pairs tally b) 2 laws pairs_tops pairs_shape val m.needs t (swap_added (regresses_swaps w.1))) in
-          inr (via_never (pairs tally b) laws pairs_tops n val t (val y) (order.antisymmetric laws est Never (order.top laws est) up)))
+          let up : NotAbove tally None est = subst (λ x. NotAbove tally x est) never (est_grows (pairs tally b) 2 laws pairs_tops pairs_shape val m.needs t (swap_added (regresses_swaps w.1))) in
+          inr (via_never (pairs tally b) laws pairs_tops n val t (val y) (order.antisymmetric laws est None (order.top laws est) up)))
           (λ ne. inl (omega arith)) (cases_eq j i)) r;
     }
 
@@ -238,7 +237,7 @@ module _ {V : Type 0} {tally : Ghosts V} (laws : LawsOf tally) (b : Setting) whe
     abbrev Le : Estimate V → Estimate V → Type 0
     Le e f = NotAbove tally e f
 
-    nil_at : (k : Two) → T (has b.start k.0) × T (has b.start k.1) → val k ≡ Value tally.nil
+    nil_at : (k : Two) → T (has b.start k.0) × T (has b.start k.1) → val k ≡ Some tally.nil
     nil_at = nil_start (pairs tally b) 2 laws pairs_tops pairs_shape known val sure closed
 
     every_step : (j : ℕ) (m : Move) (k : Two) (s t : FactSet) → At b.moves j m → Both s k → Regresses m s t → Le (val k) (via (pairs tally b) m val t)
@@ -318,18 +317,18 @@ module _ {V : Type 0} {tally : Ghosts V} (laws : LawsOf tally) (b : Setting) whe
   abbrev F : ℕ
   F = b.facts
 
-  module _ (table : List (Estimate V)) (wrote : (k : ℕ) → k < F * F → get_or table k Never ≡ cond (has b.start (k / F) && has b.start (k % F)) (Value tally.nil) Never) where
-    wrote_at : (k : Two) → k.0 < F → k.1 < F → value table k ≡ cond (has b.start k.0 && has b.start k.1) (Value tally.nil) Never
+  module _ (table : List (Estimate V)) (wrote : (k : ℕ) → k < F * F → get_or table k None ≡ cond (has b.start (k / F) && has b.start (k % F)) (Some tally.nil) None) where
+    wrote_at : (k : Two) → k.0 < F → k.1 < F → value table k ≡ cond (has b.start k.0 && has b.start k.1) (Some tally.nil) None
     wrote_at k x y =
         pair_inside F table k x y ∙ wrote (k.0 * F + k.1) (mul-add-lt k.0 F k.1 F x y)
-        ∙ ap (λ z. cond (has b.start z && has b.start ((k.0 * F + k.1) % F)) (Value tally.nil) Never) (div-mul-add k.0 F k.1 y)
-        ∙ ap (λ z. cond (has b.start k.0 && has b.start z) (Value tally.nil) Never) (mod-mul-add k.0 F k.1 y)
+        ∙ ap (λ z. cond (has b.start z && has b.start ((k.0 * F + k.1) % F)) (Some tally.nil) None) (div-mul-add k.0 F k.1 y)
+        ∙ ap (λ z. cond (has b.start k.0 && has b.start z) (Some tally.nil) None) (mod-mul-add k.0 F k.1 y)
 
-    start_at : (k : Two) → ((k.0 < F) × (k.1 < F)) × (T (has b.start k.0) × T (has b.start k.1)) → value table k ≡ Value tally.nil
+    start_at : (k : Two) → ((k.0 < F) × (k.1 < F)) × (T (has b.start k.0) × T (has b.start k.1)) → value table k ≡ Some tally.nil
     start_at k h = wrote_at k h.0.0 h.0.1 ∙ cond-true _ _ _ (and_from _ _ (to_true h.1.0) (to_true h.1.1))
 
     -- nil in the start, never elsewhere
-    begin_cases : (k : Two) → (((k.0 < F) × (k.1 < F)) × (T (has b.start k.0) × T (has b.start k.1))) ⊎ (value table k ≡ Never)
+    begin_cases : (k : Two) → (((k.0 < F) × (k.1 < F)) × (T (has b.start k.0) × T (has b.start k.1))) ⊎ (value table k ≡ None)
     begin_cases k = ⊎_elim
         (λ i. ⊎_elim (λ e. let w = and_parts _ _ e in inl (i, (from_true w.0, from_true w.1))) (λ e. inr (wrote_at k i.0 i.1 ∙ cond-false _ _ _ e))
         (cases_Bool (has b.start k.0 && has b.start k.1)))
@@ -349,8 +348,8 @@ module _ {V : Type 0} {tally : Ghosts V} (laws : LawsOf tally) (b : Setting) whe
     pub pairs_first : (new : List (Estimate V)) (done : List Bool) → ((k : ℕ) → get_or done k false ≡ false)
         → Turned (pairs tally b) (λ t. touches_both None (has t)) (Before 0) (Before (length b.moves)) (value table) (value new) → Settling (pairs tally b) (value new) (done_at F done)
     pairs_first new done none r =
-        round_ends (pairs tally b) laws (pairs_tops laws b) (λ t. touches_both None (has t)) (done_at F done) (Value tally.nil) (Before (length b.moves)) (value new) (λ j m y t st. at_less st.at)
-        (r.runs (done_at F done) (Value tally.nil)
+        round_ends (pairs tally b) laws (pairs_tops laws b) (λ t. touches_both None (has t)) (done_at F done) (Some tally.nil) (Before (length b.moves)) (value new) (λ j m y t st. at_less st.at)
+        (r.runs (done_at F done) (Some tally.nil)
         (round_first (pairs tally b) laws (pairs_tops laws b) (λ t. touches_both None (has t)) (done_at F done) (Before 0) (value table) sure_first (λ t. tt) (none_done F done none) (λ j y l. omega arith)))
 
   -- a round, in which place u is settled
@@ -370,8 +369,8 @@ module _ {V : Type 0} {tally : Ghosts V} (laws : LawsOf tally) (b : Setting) whe
     least_at : (v : Two) → done_at F done v ≡ false → NotAbove tally (value old here) (value old v)
     least_at v d =
         ⊎_elim
-        (λ i. subst (λ x. NotAbove tally x (value old v)) (sym (pair_inside F old here row_in column_in ∙ ap (λ x. get_or old x Never) is_u))
-        (subst (λ x. NotAbove tally (get_or old u Never) x) (sym (pair_inside F old v i.0 i.1))
+        (λ i. subst (λ x. NotAbove tally x (value old v)) (sym (pair_inside F old here row_in column_in ∙ ap (λ x. get_or old x None) is_u))
+        (subst (λ x. NotAbove tally (get_or old u None) x) (sym (pair_inside F old v i.0 i.1))
         (picked.least (v.0 * F + v.1) (mul-add-lt v.0 F v.1 F i.0 i.1) (sym (done_inside F done v i.0 i.1) ∙ d))))
         (λ o. subst (λ x. NotAbove tally (value old here) x) (sym (pair_outside F old v o)) (order.top laws (value old here)))
         (two_cases F v)
@@ -402,9 +401,9 @@ module _ {V : Type 0} {tally : Ghosts V} (laws : LawsOf tally) (b : Setting) whe
 
   -- when no open place has a value
   pub pairs_end : Known b → (table : List (Estimate V)) (done : List Bool) → Settling (pairs tally b) (value table) (done_at F done)
-      → ((v : ℕ) → v < F * F → get_or done v false ≡ false → get_or table v Never ≡ Never) → PairsTable tally b table
+      → ((v : ℕ) → v < F * F → get_or done v false ≡ false → get_or table v None ≡ None) → PairsTable tally b table
   pairs_end known table done s out =
-      let never : (v : Two) → done_at F done v ≡ false → value table v ≡ Never =
+      let never : (v : Two) → done_at F done v ≡ false → value table v ≡ None =
       λ v d. ⊎_elim (λ i. pair_inside F table v i.0 i.1 ∙ out (v.0 * F + v.1) (mul-add-lt v.0 F v.1 F i.0 i.1) (sym (done_inside F done v i.0 i.1) ∙ d)) (λ o. pair_outside F table v o) (two_cases F v) in
       let closed = ends (pairs tally b) laws (pairs_tops laws b) (value table) (done_at F done) s never in
       let rules = pair_rules laws b known (value table) s.sure closed in

@@ -1,5 +1,5 @@
 -- What the estimates of all sets have to be: the cost equation and its greatest solution.
-use Rattle.std.specs.Prelude.{◌≡◌, ℕ, ◌≤◌, cond, T, ◌⊎◌, List, length}
+use Rattle.std.specs.Prelude.{◌≡◌, ℕ, ◌≤◌, cond, T, ◌⊎◌, List, length, None, Some}
 use Rattle.facts.specs.Sets.{has, Within, Among}
 use Rattle.facts.specs.Words.{bit}
 use Rattle.facts.specs.declared.sets.FactSet.{FactSet}
@@ -9,8 +9,7 @@ use Rattle.tasks.specs.Tasks.{facts_of, start_of, moves_of}
 use Rattle.tasks.specs.declared.moves.Move.{Move}
 use Rattle.tasks.specs.declared.task.Task.{Task}
 use Rattle.costs.specs.Lists.{charge_of}
-use Rattle.costs.specs.declared.estimate.Estimate.{Estimate}
-use Rattle.costs.specs.declared.estimate.Estimate.TheVariants.{Value, Never}
+use Rattle.costs.specs.Estimates.{Estimate}
 use Rattle.costs.specs.declared.tally.Tally.{Ghosts}
 use Rattle.bounds.specs.Sound.{NotAbove, joined_with}
 
@@ -41,7 +40,7 @@ pub record Few (m : ℕ) (s : FactSet) : Type 0 where
 -- e is the least estimate that P has, and never if it has none
 pub record Least {V : Type 0} (tally : Ghosts V) (P : Estimate V → Type 0) (e : Estimate V) : Type 0 where
   pub lower : (f : Estimate V) → P f → NotAbove tally e f
-  pub reached : P e ⊎ (e ≡ Never)
+  pub reached : P e ⊎ (e ≡ None)
 
 -- e is the highest estimate that P has
 pub record Highest {V : Type 0} (tally : Ghosts V) (P : Estimate V → Type 0) (e : Estimate V) : Type 0 where
@@ -66,7 +65,7 @@ pub record Parts {V : Type 0} (m : ℕ) (est : FactSet → Estimate V) (s : Fact
 
 -- the equation; m is 1 for single facts and 2 for pairs
 pub record Solves {V : Type 0} (tally : Ghosts V) (b : Setting) (m : ℕ) (est : FactSet → Estimate V) : Type 0 where
-  pub within : (s : FactSet) → Within s b.start → est s ≡ Value tally.nil
+  pub within : (s : FactSet) → Within s b.start → est s ≡ Some tally.nil
   pub few : (s : FactSet) → (Within s b.start → ⊥) → Few m s → Least tally (Offers tally b est s) (est s)
   pub many : (s : FactSet) → (Within s b.start → ⊥) → (Few m s → ⊥) → Highest tally (Parts m est s) (est s)
 

@@ -1,13 +1,12 @@
 -- When the bound over a table fits a task, and how that is told.
-use Rattle.std.specs.Prelude.{◌≡◌, ℕ, zero, suc, ◌+◌, Bool, true, false, not, ◌&&◌, ◌||◌, List, [], ◌∷◌, ◌==◌}
+use Rattle.std.specs.Prelude.{◌≡◌, ℕ, zero, suc, ◌+◌, Bool, true, false, not, ◌&&◌, ◌||◌, List, [], ◌∷◌, ◌==◌, Some}
 use Rattle.facts.specs.Sets.{has}
 use Rattle.facts.specs.declared.sets.FactSet.{FactSet}
 use Rattle.tasks.specs.Tasks.{facts_of, start_of, moves_of}
 use Rattle.tasks.specs.declared.moves.Move.{Move}
 use Rattle.tasks.specs.declared.task.Task.{Task}
 use Rattle.costs.specs.Estimates.{not_above}
-use Rattle.costs.specs.declared.estimate.Estimate.{Estimate}
-use Rattle.costs.specs.declared.estimate.Estimate.TheVariants.{Value}
+use Rattle.costs.specs.Estimates.{Estimate}
 use Rattle.costs.specs.declared.tally.Tally.{Ghosts}
 use Rattle.tables.specs.Equation.{Setting, offer_of}
 use Rattle.tables.specs.Reading.{Two, estimate_by_singles, estimate_by_pairs, highest_two, past}
@@ -66,7 +65,7 @@ every_head m test = every_of m.makes (λ p. has m.breaks p || test p)
 
 abbrev pub keeps_single : {V : Type 0} → Ghosts V → Setting → (ℕ → Estimate V) → Bool
 keeps_single tally b val =
-    every_of b.start (λ p. not_above tally.at_most (val p) (Value tally.nil))
+    every_of b.start (λ p. not_above tally.at_most (val p) (Some tally.nil))
     && every_move b.moves (λ m. every_head m (λ p. not_above tally.at_most (val p) (offer_of tally b m (estimate_by_singles tally val m.needs))))
 
 -- the estimate of what a move needs for a fact that it makes together with r
@@ -81,6 +80,6 @@ keeps_move tally b val m =
 
 abbrev pub keeps_pair : {V : Type 0} → Ghosts V → Setting → (Two → Estimate V) → Bool
 keeps_pair tally b val =
-    every_of b.start (λ p. every_of b.start (λ q. not_above tally.at_most (val (p, q)) (Value tally.nil)))
+    every_of b.start (λ p. every_of b.start (λ q. not_above tally.at_most (val (p, q)) (Some tally.nil)))
     && (every_move b.moves (keeps_move tally b val)
     && every b.facts (λ p. every b.facts (λ q. not_above tally.at_most (val (p, p)) (val (p, q)) && not_above tally.at_most (val (p, q)) (val (q, p)))))

@@ -1,12 +1,11 @@
 -- Which places a table has, and what is read from them.
-use Rattle.std.specs.Prelude.{◌≡◌, ℕ, zero, suc, ◌+◌, ◌*◌, Bool, cond, ◌&&◌, ◌||◌, ◌⊎◌, List, [], ◌∷◌, ◌==◌, nat_lt, slice_index_or}
+use Rattle.std.specs.Prelude.{◌≡◌, ℕ, zero, suc, ◌+◌, ◌*◌, Bool, cond, ◌&&◌, ◌||◌, ◌⊎◌, List, [], ◌∷◌, ◌==◌, nat_lt, slice_index_or, None, Some}
 use Rattle.facts.specs.Sets.{has}
 use Rattle.facts.specs.declared.sets.FactSet.{FactSet}
 use Rattle.tasks.specs.declared.moves.Move.{Move}
 use Rattle.costs.specs.Choices.{larger_of}
 use Rattle.costs.specs.Estimates.{not_above}
-use Rattle.costs.specs.declared.estimate.Estimate.{Estimate}
-use Rattle.costs.specs.declared.estimate.Estimate.TheVariants.{Value, Never}
+use Rattle.costs.specs.Estimates.{Estimate}
 use Rattle.costs.specs.declared.tally.Tally.{Ghosts}
 use Rattle.bounds.specs.Sound.{NotAbove}
 use Rattle.tables.specs.Equation.{charge_if_counted}
@@ -25,20 +24,20 @@ pub record Both (s : FactSet) (k : Two) : Type 0 where
 
 -- place p of a single table belongs to fact p; a missing place is never, and so is that of a number that is no fact
 unfoldable pub place_of_single : {V : Type 0} → ℕ → List (Estimate V) → ℕ → Estimate V
-place_of_single facts table p = cond (nat_lt p facts) (slice_index_or table p Never) Never
+place_of_single facts table p = cond (nat_lt p facts) (slice_index_or table p None) None
 
 -- place p × F + q of a pair table belongs to p and q
 unfoldable pub place_of_pair : {V : Type 0} → ℕ → List (Estimate V) → Two → Estimate V
-place_of_pair facts table k = cond (nat_lt k.0 facts && nat_lt k.1 facts) (slice_index_or table (k.0 * facts + k.1) Never) Never
+place_of_pair facts table k = cond (nat_lt k.0 facts && nat_lt k.1 facts) (slice_index_or table (k.0 * facts + k.1) None) None
 
 -- e is the highest of the places for which P holds, nil if there is none
 pub record Top {V K : Type 0} (tally : Ghosts V) (P : K → Type 0) (val : K → Estimate V) (e : Estimate V) : Type 0 where
   pub upper : (k : K) → P k → NotAbove tally (val k) e
-  pub reached : (e ≡ Value tally.nil) ⊎ ((k : K) × P k × (e ≡ val k))
+  pub reached : (e ≡ Some tally.nil) ⊎ ((k : K) × P k × (e ≡ val k))
 
 -- the same as a function: the highest value among the numbers below n that `from` has
 unfoldable pub highest : {V : Type 0} → Ghosts V → (ℕ → Bool) → (ℕ → Estimate V) → ℕ → Estimate V
-highest tally from val zero = Value tally.nil
+highest tally from val zero = Some tally.nil
 highest tally from val (suc n) = cond (from n) (larger_of (not_above tally.at_most) (highest tally from val n) (val n)) (highest tally from val n)
 
 -- a number above all facts of s

@@ -7,8 +7,7 @@ use Rattle.tasks.specs.Places.{At}
 use Rattle.tasks.specs.declared.moves.Move.{Move}
 use Rattle.costs.specs.Choices.{Smaller}
 use Rattle.costs.specs.Estimates.{not_above}
-use Rattle.costs.specs.declared.estimate.Estimate.{Estimate}
-use Rattle.costs.specs.declared.estimate.Estimate.TheVariants.{Value, Never}
+use Rattle.costs.specs.Estimates.{Estimate}
 use Rattle.costs.specs.declared.tally.Tally.{Ghosts}
 use Rattle.bounds.specs.Sound.{NotAbove}
 use Rattle.tables.specs.Equation.{Setting, offer_of}
@@ -65,12 +64,12 @@ via n m val t = offer_of n.tally n.setting m (n.est val t)
 
 -- h is at most what the steps from each place allow
 pub record Under {V K : Type 0} (n : Net V K) (h : K → Estimate V) : Type 0 where
-  pub begun : (k : K) → Start n k → NotAbove n.tally (h k) (Value n.tally.nil)
+  pub begun : (k : K) → Start n k → NotAbove n.tally (h k) (Some n.tally.nil)
   pub steps : (j : ℕ) (m : Move) (y : K) (t : FactSet) → Step n j m y t → NotAbove n.tally (h y) (via n m h t)
 
 -- the value of place y has a reason
 pub data Backed {V K : Type 0} (n : Net V K) (val : K → Estimate V) (y : K) : Type 0 where
-  unreached : val y ≡ Never → Backed n val y
+  unreached : val y ≡ None → Backed n val y
   begun : Start n y → Backed n val y
   stepped : (j : ℕ) (m : Move) (t : FactSet) → Step n j m y t → NotAbove n.tally (via n m val t) (val y) → Backed n val y
 
@@ -78,8 +77,8 @@ pub data Backed {V K : Type 0} (n : Net V K) (val : K → Estimate V) (y : K) : 
 pub record Sure {V K : Type 0} (n : Net V K) (val : K → Estimate V) : Type 0 where
   pub above : (h : K → Estimate V) → Under n h → (k : K) → NotAbove n.tally (h k) (val k)
   pub backed : (y : K) → Backed n val y
-  pub begun : (k : K) → Start n k → val k ≡ Value n.tally.nil
-  pub absent : (k : K) → (n.Present k → ⊥) → val k ≡ Never
+  pub begun : (k : K) → Start n k → val k ≡ Some n.tally.nil
+  pub absent : (k : K) → (n.Present k → ⊥) → val k ≡ None
 
 -- between two rounds
 pub record Settling {V K : Type 0} (n : Net V K) (val : K → Estimate V) (done : K → Bool) : Type 0 where
@@ -92,7 +91,7 @@ pub record Relaxing {V K : Type 0} (n : Net V K) (fresh : FactSet → Bool) (don
   pub sure : Sure n val
   pub low : (u : K) → T (done u) → NotAbove n.tally (val u) floor
   pub high : (v : K) → done v ≡ false → NotAbove n.tally floor (val v)
-  pub base : (floor ≡ Value n.tally.nil) ⊎ ((u : K) × T (done u) × (val u ≡ floor) × ((t : FactSet) → T (fresh t) → n.In t u))
+  pub base : (floor ≡ Some n.tally.nil) ⊎ ((u : K) × T (done u) × (val u ≡ floor) × ((t : FactSet) → T (fresh t) → n.In t u))
   pub closed : (j : ℕ) (m : Move) (y : K) (t : FactSet) → Step n j m y t → ((k : K) → n.In t k → T (done k)) → (fresh t ≡ false) ⊎ Seen j y
       → NotAbove n.tally (val y) (via n m val t)
 
@@ -112,7 +111,7 @@ pub record Lowers {V K : Type 0} (tally : Ghosts V) (Head : K → Type 0) (offer
 -- the place of this number has become the smaller of it and the offer
 pub record LowersAt {V : Type 0} (tally : Ghosts V) (number : ℕ) (offer : Estimate V) (old new : List (Estimate V)) : Type 0 where
   pub to : Estimate V
-  pub smaller : Smaller (not_above tally.at_most) (slice_index_or old number Never) offer to
+  pub smaller : Smaller (not_above tally.at_most) (slice_index_or old number None) offer to
   pub wrote : new ≡ slice_set old number to
 
 -- whether the place just settled is among the facts; at first, any facts are taken

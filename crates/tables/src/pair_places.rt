@@ -6,7 +6,7 @@ ghost use Rattle.tables.specs.Settling.{besides, Beside, Lowers};
 ghost use Rattle.tables.specs.Worked.{SamePast};
 
 use crate::settling::lower_at;
-use costs::{Estimate, Tally, higher};
+use costs::{Estimate, Tally};
 use facts::FactSet;
 use tasks::Move;
 
@@ -38,13 +38,13 @@ pub fn pair_place<V: Tally>(table: &[Estimate<V>], facts: u8, p: u8, q: u8) -> E
     ensures { result ≡ place_of_pair facts table.now (p, q) }
 {
     if p >= facts || q >= facts {
-        return Estimate::Never;
+        return None;
     }
     let number = number_of(facts, p, q);
     if number < table.len() {
         table[number]
     } else {
-        Estimate::Never
+        None
     }
 }
 
@@ -54,7 +54,7 @@ fn row_estimate<V: Tally>(table: &[Estimate<V>], facts: u8, set: FactSet, p: u8)
 {
     let mut top = Estimate::<V>::nil();
     for q in set.iter() {
-        top = higher(top, pair_place(table, facts, p, q));
+        top = top.larger(pair_place(table, facts, p, q));
     }
     top
 }
@@ -65,7 +65,7 @@ pub fn highest_pair<V: Tally>(table: &[Estimate<V>], facts: u8, set: FactSet) ->
 {
     let mut top = Estimate::<V>::nil();
     for p in set.iter() {
-        top = higher(top, row_estimate(table, facts, set, p));
+        top = top.larger(row_estimate(table, facts, set, p));
     }
     top
 }
@@ -83,8 +83,8 @@ fn beside_estimate<V: Tally>(table: &[Estimate<V>], facts: u8, set: FactSet, r: 
 {
     let mut top = pair_place(table, facts, r, r);
     for p in set.iter() {
-        top = higher(top, pair_place(table, facts, p, r));
-        top = higher(top, pair_place(table, facts, r, p));
+        top = top.larger(pair_place(table, facts, p, r));
+        top = top.larger(pair_place(table, facts, r, p));
     }
     top
 }
@@ -103,7 +103,7 @@ pub fn with_beside<V: Tally>(
     if m.makes.has(r) | m.needs.has(r) {
         base
     } else {
-        higher(base, beside_estimate(table, facts, m.needs, r))
+        base.larger(beside_estimate(table, facts, m.needs, r))
     }
 }
 

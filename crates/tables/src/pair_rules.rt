@@ -1,7 +1,6 @@
 // Whether a pair table, as handed in, keeps the rules of a bound.
-ghost use Rattle.std.specs.Prelude.{◌≡◌, ℕ, ◌<◌, ◌&&◌, T, Decides};
+ghost use Rattle.std.specs.Prelude.{◌≡◌, ℕ, ◌<◌, ◌&&◌, T, Decides, Some};
 ghost use Rattle.facts.specs.Sets.{has};
-ghost use Rattle.costs.specs.declared.estimate.Estimate.TheVariants.{Value};
 ghost use Rattle.bounds.specs.Sound.{NotAbove, Sound};
 ghost use Rattle.tables.specs.Equation.{offer_of};
 ghost use Rattle.tables.specs.Fitting.{setting_in, besides_estimate, keeps_move, is_same_task, keeps_pair, PairFits};
@@ -52,7 +51,7 @@ fn column_within<V: Tally>(
 
 // Whether the pairs from the start are nil.
 fn keeps_start<V: Tally>(table: &[Estimate<V>], facts: u8, start: FactSet) -> bool
-    ensures { Decides result ((r : ℕ) → T (has start r) → (p : ℕ) → T (has start p) → NotAbove V.Tally (place_of_pair facts table.now (p, r)) (Value V.Tally.nil)) }
+    ensures { Decides result ((r : ℕ) → T (has start r) → (p : ℕ) → T (has start p) → NotAbove V.Tally (place_of_pair facts table.now (p, r)) (Some V.Tally.nil)) }
 {
     for r in start.iter() {
         if !column_within(table, facts, start, r, Estimate::<V>::nil()) {
@@ -73,7 +72,7 @@ fn keeps_beside<V: Tally>(
     requires { Top V.Tally (λ k. T (has m.now.needs k.0) × T (has m.now.needs k.1)) (place_of_pair origin.now.facts table.now) base }
     ensures { Decides result ((p : ℕ) → T (has m.now.makes p) → (T (has m.now.breaks p) → ⊥) → NotAbove V.Tally (place_of_pair origin.now.facts table.now (p, r)) (offer_of V.Tally (setting_in origin.now) m.now (besides_estimate V.Tally (place_of_pair origin.now.facts table.now) m.now r))) }
 {
-    let charge = Estimate::Value(counted_charge(origin.groups, m));
+    let charge = Some(counted_charge(origin.groups, m));
     let offer = charge.join(with_beside(table, origin.facts, m, base, r));
     column_within(table, origin.facts, m.makes.without(m.breaks), r, offer)
 }
@@ -88,7 +87,7 @@ fn keeps_offers<V: Tally>(origin: &Origin<'_>, table: &[Estimate<V>], m: &Move) 
             return false;
         }
     }
-    let charge = Estimate::Value(counted_charge(origin.groups, m));
+    let charge = Some(counted_charge(origin.groups, m));
     alone_within(
         table,
         origin.facts,

@@ -1,8 +1,7 @@
 // The table of pairs of facts: place p × F + q has the estimate of the set of p and q.
-ghost use Rattle.std.specs.Prelude.{◌≡◌, ℕ, ◌+◌, ◌*◌, ◌/◌, ◌%◌, ◌<◌, ◌≤◌, not, ◌&&◌, length, IfSome, if◌then◌else◌, ◌==◌, nat_lt, slice_index_or};
+ghost use Rattle.std.specs.Prelude.{◌≡◌, ℕ, ◌+◌, ◌*◌, ◌/◌, ◌%◌, ◌<◌, ◌≤◌, not, ◌&&◌, length, IfSome, if◌then◌else◌, ◌==◌, nat_lt, slice_index_or, None, Some};
 ghost use Rattle.facts.specs.Sets.{has};
-ghost use Rattle.tasks.specs.Tasks.{Checked, facts_of, moves_of};
-ghost use Rattle.costs.specs.declared.estimate.Estimate.TheVariants.{Value, Never};
+ghost use Rattle.tasks.specs.Tasks.{facts_of, moves_of};
 ghost use Rattle.tables.specs.Equation.{setting_of};
 ghost use Rattle.tables.specs.Reading.{place_of_pair};
 ghost use Rattle.tables.specs.Settling.{pairs as pair_net, besides, touches_both, Before, Turned};
@@ -19,7 +18,7 @@ use tasks::{Move, Task};
 // Nil at the pairs from the start, never at the others.
 fn begin_pairs<V: Tally>(facts: u8, start: FactSet, table: &mut [Estimate<V>])
     requires { facts * facts ≤ length table.old }
-    ensures inside { (k : ℕ) → k < facts * facts → slice_index_or table.new k Never ≡ (if has start (k / facts) && has start (k % facts) then Value V.Tally.nil else Never) }
+    ensures inside { (k : ℕ) → k < facts * facts → slice_index_or table.new k None ≡ (if has start (k / facts) && has start (k % facts) then Some V.Tally.nil else None) }
     ensures past { SamePast (facts * facts) table.old table.new }
 {
     let count = count_of(facts);
@@ -28,7 +27,7 @@ fn begin_pairs<V: Tally>(facts: u8, start: FactSet, table: &mut [Estimate<V>])
         table[number] = if start.has(p) & start.has(q) {
             Estimate::<V>::nil()
         } else {
-            Estimate::Never
+            None
         };
     }
 }
@@ -102,10 +101,10 @@ fn take_pair<V: Tally>(
     }
     let facts = task.facts();
     let heads = m.makes.without(m.breaks);
-    let charge = Estimate::Value(counted_charge(groups, m));
+    let charge = Some(counted_charge(groups, m));
     let base = highest_pair(table, facts, m.needs);
     // where its needs are never met, the move offers nothing
-    if let Estimate::Never = base {
+    if let None = base {
         return;
     }
     for r in others.iter() {
@@ -137,7 +136,7 @@ fn take_pairs<V: Tally>(
 fn settle_pairs<V: Tally>(task: &Task<'_>, groups: u8, table: &mut [Estimate<V>])
     requires places { facts_of task.now * facts_of task.now ≤ length table.old }
     requires few { facts_of task.now ≤ 64 }
-    ensures worked { Checked task.now → PairsTable V.Tally (setting_of task.now groups) table.new }
+    ensures worked { PairsTable V.Tally (setting_of task.now groups) table.new }
     ensures past { SamePast (facts_of task.now * facts_of task.now) table.old table.new }
 {
     let facts = task.facts();
@@ -155,7 +154,7 @@ fn settle_pairs<V: Tally>(task: &Task<'_>, groups: u8, table: &mut [Estimate<V>]
 // Fills the first places, one for each two facts.
 fn fill_pairs<V: Tally>(task: &Task<'_>, groups: u8, table: &mut [Estimate<V>])
     requires { facts_of task.now * facts_of task.now ≤ length table.old }
-    ensures worked { Checked task.now → PairsTable V.Tally (setting_of task.now groups) table.new }
+    ensures worked { PairsTable V.Tally (setting_of task.now groups) table.new }
     ensures past { SamePast (facts_of task.now * facts_of task.now) table.old table.new }
 {
     // a checked task has no more facts than that

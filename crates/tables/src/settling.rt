@@ -3,14 +3,14 @@ ghost use Rattle.std.specs.Prelude.{◌<◌, ◌≤◌, length};
 ghost use Rattle.tables.specs.Settling.{LowersAt};
 ghost use Rattle.tables.specs.Worked.{Picks};
 
-use costs::{Estimate, Tally, lower};
+use costs::{Estimate, Tally};
 
 // The open place of least value; none if no open place has a value.
 pub fn cheapest<V: Tally>(count: usize, done: &[bool], table: &[Estimate<V>]) -> Option<usize>
     requires { (count ≤ length table.now) × (count ≤ length done.now) }
     ensures { Picks V.Tally count done.now table.now result }
 {
-    let mut best = Estimate::Never;
+    let mut best = None;
     let mut chosen = 0;
     for k in 0..count {
         if !done[k] && !best.at_most(table[k]) {
@@ -19,8 +19,8 @@ pub fn cheapest<V: Tally>(count: usize, done: &[bool], table: &[Estimate<V>]) ->
         }
     }
     match best {
-        Estimate::Value(_) => Some(chosen),
-        Estimate::Never => None,
+        Some(_) => Some(chosen),
+        None => None,
     }
 }
 
@@ -29,5 +29,5 @@ pub fn lower_at<V: Tally>(table: &mut [Estimate<V>], number: usize, offer: Estim
     requires { number < length table.old }
     ensures { LowersAt V.Tally number offer table.old table.new }
 {
-    table[number] = lower(table[number], offer);
+    table[number] = table[number].smaller(offer);
 }

@@ -6,7 +6,7 @@ ghost use Rattle.tables.specs.Settling.{Lowers};
 ghost use Rattle.tables.specs.Worked.{SamePast};
 
 use crate::settling::lower_at;
-use costs::{Estimate, Tally, higher};
+use costs::{Estimate, Tally};
 use facts::FactSet;
 
 // The place of fact p in a single table for `facts` facts; a missing place is never.
@@ -17,7 +17,7 @@ pub fn single_place<V: Tally>(table: &[Estimate<V>], facts: u8, p: u8) -> Estima
     if p < facts && place < table.len() {
         table[place]
     } else {
-        Estimate::Never
+        None
     }
 }
 
@@ -27,7 +27,7 @@ fn highest_single<V: Tally>(table: &[Estimate<V>], facts: u8, set: FactSet) -> E
 {
     let mut top = Estimate::<V>::nil();
     for fact in set.iter() {
-        top = higher(top, single_place(table, facts, fact));
+        top = top.larger(single_place(table, facts, fact));
     }
     top
 }

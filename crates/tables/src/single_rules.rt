@@ -1,7 +1,6 @@
 // Whether a single table, as handed in, keeps the rules of a bound.
-ghost use Rattle.std.specs.Prelude.{◌≡◌, ℕ, ◌&&◌, T, Decides};
+ghost use Rattle.std.specs.Prelude.{◌≡◌, ℕ, ◌&&◌, T, Decides, Some};
 ghost use Rattle.facts.specs.Sets.{has};
-ghost use Rattle.costs.specs.declared.estimate.Estimate.TheVariants.{Value};
 ghost use Rattle.bounds.specs.Sound.{NotAbove, Sound};
 ghost use Rattle.tables.specs.Equation.{offer_of};
 ghost use Rattle.tables.specs.Fitting.{setting_in, is_same_task, keeps_single, SingleFits};
@@ -36,7 +35,7 @@ fn singles_within<V: Tally>(
 fn keeps_offer<V: Tally>(origin: &Origin<'_>, table: &[Estimate<V>], m: &Move) -> bool
     ensures { Decides result ((p : ℕ) → T (has m.now.makes p) → (T (has m.now.breaks p) → ⊥) → NotAbove V.Tally (place_of_single origin.now.facts table.now p) (offer_of V.Tally (setting_in origin.now) m.now (estimate_by_singles V.Tally (place_of_single origin.now.facts table.now) m.now.needs))) }
 {
-    let charge = Estimate::Value(counted_charge(origin.groups, m));
+    let charge = Some(counted_charge(origin.groups, m));
     let offer = charge.join(single_estimate(table, origin.facts, m.needs));
     singles_within(table, origin.facts, m.makes.without(m.breaks), offer)
 }

@@ -1,8 +1,7 @@
 // The table of single facts: place p has the estimate of the set of fact p.
-ghost use Rattle.std.specs.Prelude.{◌≡◌, ℕ, ◌+◌, ◌<◌, ◌≤◌, length, if◌then◌else◌, slice_index_or};
+ghost use Rattle.std.specs.Prelude.{◌≡◌, ℕ, ◌+◌, ◌<◌, ◌≤◌, length, if◌then◌else◌, slice_index_or, None, Some};
 ghost use Rattle.facts.specs.Sets.{has};
-ghost use Rattle.tasks.specs.Tasks.{Checked, facts_of, moves_of};
-ghost use Rattle.costs.specs.declared.estimate.Estimate.TheVariants.{Value, Never};
+ghost use Rattle.tasks.specs.Tasks.{facts_of, moves_of};
 ghost use Rattle.tables.specs.Equation.{setting_of};
 ghost use Rattle.tables.specs.Reading.{place_of_single};
 ghost use Rattle.tables.specs.Settling.{singles as single_net, touches, Before, Turned};
@@ -19,7 +18,7 @@ use tasks::Task;
 // Nil at the facts of the start, never at the others.
 fn begin_singles<V: Tally>(facts: u8, start: FactSet, table: &mut [Estimate<V>])
     requires { facts ≤ length table.old }
-    ensures inside { (k : ℕ) → k < facts → slice_index_or table.new k Never ≡ (if has start k then Value V.Tally.nil else Never) }
+    ensures inside { (k : ℕ) → k < facts → slice_index_or table.new k None ≡ (if has start k then Some V.Tally.nil else None) }
     ensures past { SamePast facts table.old table.new }
 {
     for fact in 0..facts {
@@ -27,7 +26,7 @@ fn begin_singles<V: Tally>(facts: u8, start: FactSet, table: &mut [Estimate<V>])
         table[place] = if start.has(fact) {
             Estimate::<V>::nil()
         } else {
-            Estimate::Never
+            None
         };
     }
 }
@@ -57,7 +56,7 @@ fn take_single<V: Tally>(
     let m = &task.moves()[number];
     if is_touched(m.needs, settled) {
         let facts = task.facts();
-        let charge = Estimate::Value(counted_charge(groups, m));
+        let charge = Some(counted_charge(groups, m));
         let offer = charge.join(single_estimate(table, facts, m.needs));
         lower_singles(table, facts, m.makes.without(m.breaks), offer);
     }
@@ -82,7 +81,7 @@ fn take_singles<V: Tally>(
 // Settles the places, the cheapest first.
 fn settle_singles<V: Tally>(task: &Task<'_>, groups: u8, table: &mut [Estimate<V>])
     requires { (facts_of task.now ≤ length table.old) × (facts_of task.now ≤ 64) }
-    ensures worked { Checked task.now → SinglesTable V.Tally (setting_of task.now groups) table.new }
+    ensures worked { SinglesTable V.Tally (setting_of task.now groups) table.new }
     ensures past { SamePast (facts_of task.now) table.old table.new }
 {
     let facts = task.facts();
@@ -99,7 +98,7 @@ fn settle_singles<V: Tally>(task: &Task<'_>, groups: u8, table: &mut [Estimate<V
 // Fills the first places, one for each fact.
 fn fill_singles<V: Tally>(task: &Task<'_>, groups: u8, table: &mut [Estimate<V>])
     requires { facts_of task.now ≤ length table.old }
-    ensures worked { Checked task.now → SinglesTable V.Tally (setting_of task.now groups) table.new }
+    ensures worked { SinglesTable V.Tally (setting_of task.now groups) table.new }
     ensures past { SamePast (facts_of task.now) table.old table.new }
 {
     // a checked task has no more facts than that

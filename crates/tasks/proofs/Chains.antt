@@ -50,6 +50,6 @@ module _ {moves : List Move} (apart : (k : ℕ) (m : Move) → At moves k m → 
       longer step.1 tr (before (apart k m step.1) step.2 tr.within (overlap_or_not m.makes tr.last))
 
 pub good_lists_have_chains : GoodListsHaveChains
-good_lists_have_chains t checked l good =
-    let tr = traced (λ k m at o. checked MakesAndBreaks (OfMove k) (m, at, o)) good.carried good.stands in
+good_lists_have_chains t l good =
+    let tr = traced (λ k m at o. t.checked MakesAndBreaks (OfMove k) (m, at, o)) good.carried good.stands in
     (tr.some, record { last = tr.last; chain = tr.chain; within = tr.within }, tr.sublist)

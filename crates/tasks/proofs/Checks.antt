@@ -1,19 +1,31 @@
 -- What the check finds, and what it has then seen of a task.
-use Rattle.std.proofs.Common.{◌≡◌, ℕ, ◌+◌, ◌<◌, ◌≤◌, false, length, Decides, subst, inr, ⊎_elim, arith}
+use Rattle.std.proofs.Common.{◌≡◌, ℕ, ◌+◌, ◌<◌, ◌≤◌, false, length, Decides, subst, inl, inr, ⊎_elim, arith}
 use Rattle.std.proofs.lemmas.Bool.{cases_lt}
 use Rattle.facts.proofs.Tests.{not_true_false}
 use Rattle.tasks.specs.Faults.{HeadingFault, MoveFault, Faulty, FirstPlace, turn}
 use Rattle.tasks.specs.Places.{At}
+use Rattle.tasks.specs.Tasks.{draft_of, facts_of, moves_of}
 use Rattle.tasks.specs.declared.draft.Draft.{Draft}
 use Rattle.tasks.specs.declared.moves.Move.{Move}
 use Rattle.tasks.specs.declared.refusal.Place.{Place}
 use Rattle.tasks.specs.declared.refusal.Place.TheVariants.{Heading, Move as OfMove}
 use Rattle.tasks.specs.declared.refusal.Refusal.{Refusal}
 use Rattle.tasks.specs.declared.refusal.Refusal.TheVariants.{OutOfRange}
+use Rattle.tasks.specs.declared.task.Task.{Task}
 use Rattle.tasks.proofs.Places.{at_less, at_same}
 
 pub few_moves : (d : Draft) → ((p : Place) → Faulty d OutOfRange p → ⊥) → length d.moves.now ≤ 1024
 few_moves d none = ⊎_elim (λ l. absurd (none Heading (inr (inr l)))) (λ l. l) (cases_lt 1024 (length d.moves.now))
+
+-- so a task has at most 1,024 moves, and from 1 to 64 facts
+pub few_moves_of : (t : Task) → length (moves_of t) ≤ 1024
+few_moves_of t = few_moves (draft_of t) (t.checked OutOfRange)
+
+pub few_facts : (t : Task) → facts_of t ≤ 64
+few_facts t = ⊎_elim (λ l. absurd (t.checked OutOfRange Heading (inr (inl l)))) (λ l. l) (cases_lt 64 (facts_of t))
+
+pub some_facts : (t : Task) → 0 < facts_of t
+some_facts t = ⊎_elim (λ l. absurd (t.checked OutOfRange Heading (inl l))) (λ l. omega arith) (cases_lt (facts_of t) 1)
 
 -- any move will do where a list is read past its end
 abbrev pub no_move : Move

@@ -2,3 +2,4 @@ pub mod Places
 pub mod Bearing
 pub mod Chains
 pub mod Checks
+pub mod Fine

@@ -1,5 +1,7 @@
 -- Which element stands at which place of a list.
-use Rattle.std.proofs.Common.{◌≡◌, ℕ, zero, suc, ◌<◌, List, [], ◌∷◌, length, get_or, refl, arith}
+use Rattle.std.proofs.Common.{◌≡◌, ℕ, zero, suc, ◌<◌, List, [], ◌∷◌, length, Some, None, Option, get_or, MatchOption, Bor, sym, refl, subst, arith}
+use Rattle.std.specs.Option.{option_copied}
+use Rattle.std.specs.Slice.{IsItemAt}
 use Rattle.tasks.specs.Places.{At, here, there}
 
 module _ {A : Type 0} where
@@ -16,3 +18,8 @@ module _ {A : Type 0} where
   at_get [] i d h = absurd (omega arith)
   at_get (x ∷ l) zero d h = here
   at_get (x ∷ l) (suc i) d h = there (at_get l i d (omega arith))
+
+  -- what a list lends at a place stands there
+  pub at_lent : (l : List A) (i : ℕ) (r : Option (Bor A)) → IsItemAt l i r → MatchOption (option_copied r) ((x : A) → At l i x → ⊥) (At l i)
+  at_lent l i None lent = λ x at. omega (arith, at_less at, lent.3)
+  at_lent l i (Some x) lent = subst (At l i) (sym lent.1) (at_get l i x.now lent.3.0)

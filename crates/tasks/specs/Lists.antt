@@ -1,14 +1,14 @@
 -- Lists of moves carried out, good lists, and chains of regressions.
-use Rattle.std.specs.Prelude.{ℕ, ◌<◌, List, [], ◌∷◌, length, take, Decides, slice_index}
+use Rattle.std.specs.Prelude.{ℕ, ◌<◌, List, [], ◌∷◌, length, take, Ok, Err, Result, Decides, slice_index}
 use Rattle.facts.specs.Sets.{Within}
 use Rattle.facts.specs.declared.sets.FactSet.{FactSet}
 use Rattle.tasks.specs.Moves.{Carries, Regresses}
 use Rattle.tasks.specs.Places.{At}
-use Rattle.tasks.specs.Tasks.{start_of, goal_of, moves_of, Checked}
+use Rattle.tasks.specs.Tasks.{start_of, goal_of, moves_of}
 use Rattle.tasks.specs.declared.moves.Move.{Move}
 use Rattle.tasks.specs.declared.task.Task.{Task}
-use Rattle.tasks.specs.declared.task.carrying.Outcome.{Outcome}
-use Rattle.tasks.specs.declared.task.carrying.Outcome.TheVariants.{Done, Stuck}
+use Rattle.tasks.specs.declared.task.carrying.Arrival.{Arrival}
+use Rattle.tasks.specs.declared.task.carrying.Stuck.{Stuck}
 
 -- the move of this number can be carried out in s, and leaves t
 abbrev pub Step : List Move → ℕ → FactSet → FactSet → Type 0
@@ -33,9 +33,9 @@ pub record StuckAt (moves : List Move) (s : FactSet) (l : List ℕ) (at : ℕ) :
   pub stuck : (u : FactSet) → Step moves (slice_index l at) facts u → ⊥
 
 -- what carrying out a list from the start comes to
-abbrev pub ComesTo : Task → List ℕ → Outcome → Type 0
-ComesTo t l (Done facts goal) = Carried (moves_of t) (start_of t) l facts × Decides goal (Within (goal_of t) facts)
-ComesTo t l (Stuck at) = StuckAt (moves_of t) (start_of t) l at
+abbrev pub ComesTo : Task → List ℕ → Result Arrival Stuck → Type 0
+ComesTo t l (Ok end) = Carried (moves_of t) (start_of t) l end.facts × Decides end.goal (Within (goal_of t) end.facts)
+ComesTo t l (Err stuck) = StuckAt (moves_of t) (start_of t) l stuck.at
 
 -- regressions lead from s to the last set, by the moves of these numbers, the last of them first: that is the order of carrying out
 pub data Chain (moves : List Move) (s : FactSet) : List ℕ → FactSet → Type 0 where
@@ -58,4 +58,4 @@ abbrev pub ChainsAreGoodLists : Type 0
 ChainsAreGoodLists = (t : Task) (l : List ℕ) → Reaches t l → Good t l
 
 abbrev pub GoodListsHaveChains : Type 0
-GoodListsHaveChains = (t : Task) → Checked t → (l : List ℕ) → Good t l → (some : List ℕ) × Reaches t some × Sublist some l
+GoodListsHaveChains = (t : Task) (l : List ℕ) → Good t l → (some : List ℕ) × Reaches t some × Sublist some l

@@ -1,7 +1,6 @@
--- The parts of a task, and what the check has seen of it.
+-- The parts of a task.
 use Rattle.std.specs.Prelude.{ℕ, List}
 use Rattle.facts.specs.declared.sets.FactSet.{FactSet}
-use Rattle.tasks.specs.Faults.{Faultless}
 use Rattle.tasks.specs.declared.draft.Draft.{Draft}
 use Rattle.tasks.specs.declared.moves.Move.{Move}
 use Rattle.tasks.specs.declared.task.Task.{Task}
@@ -20,7 +19,3 @@ goal_of t = (draft_of t).goal
 
 abbrev pub moves_of : Task → List Move
 moves_of t = (draft_of t).moves.now
-
--- a checked task has no fault
-abbrev pub Checked : Task → Type 0
-Checked t = Faultless (draft_of t)

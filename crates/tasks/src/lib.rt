@@ -11,6 +11,6 @@ pub use draft::Draft;
 pub use moves::Move;
 pub use refusal::{Fault, Place, Refusal};
 pub use task::Task;
-pub use task::carrying::Outcome;
+pub use task::carrying::{Arrival, Stuck};
 pub use task::checking::check;
 pub use theorems::{chains_are_good_lists, good_lists_have_chains};

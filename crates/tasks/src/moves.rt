@@ -6,7 +6,7 @@ ghost use Rattle.tasks.specs.Moves.{Carries, Regresses};
 use facts::FactSet;
 
 // A move needs some facts, makes some and breaks some.
-#[derive(Clone, Copy)]
+#[derive(Clone, Copy, PartialEq, Eq)]
 pub struct Move {
     // 0 to 7; tables may count the moves of some groups only
     pub group: u8,

@@ -5,22 +5,18 @@ ghost use Rattle.tasks.specs.Refusals.{number_of, place_of};
 #[derive(Clone, Copy, PartialEq, Eq)]
 pub enum Refusal {
     // a value is out of range
-    OutOfRange,
+    OutOfRange = 3,
     // a set holds a fact that the draft does not have
-    UnknownFact,
+    UnknownFact = 5,
     // a move both makes and breaks a fact
-    MakesAndBreaks,
+    MakesAndBreaks = 6,
 }
 
 impl Refusal {
     pub fn number(self) -> u16
         ensures { result ≡ number_of self }
     {
-        match self {
-            Refusal::OutOfRange => 3,
-            Refusal::UnknownFact => 5,
-            Refusal::MakesAndBreaks => 6,
-        }
+        self as u16
     }
 }
 
@@ -34,7 +30,7 @@ pub enum Place {
 }
 
 impl Place {
-    // The move's number, 65,535 for the draft itself.
+    // The move's number, 65,535 for the draft itself: so it is told outside, and nowhere else.
     pub fn number(self) -> u16
         ensures { result ≡ place_of self }
     {

@@ -1,7 +1,7 @@
 // Checked tasks.
-ghost use Rattle.std.specs.Prelude.{◌≡◌, MatchOption};
+ghost use Rattle.std.specs.Prelude.{MatchOption};
+ghost use Rattle.tasks.specs.Faults.{Faultless};
 ghost use Rattle.tasks.specs.Places.{At};
-ghost use Rattle.tasks.specs.Tasks.{facts_of, start_of, goal_of, moves_of};
 
 use crate::draft::Draft;
 use crate::moves::Move;
@@ -10,13 +10,17 @@ use facts::FactSet;
 pub mod carrying;
 pub mod checking;
 
-// A draft that passed the check. Its field is private, so that a task comes from the check and from nowhere else.
+// A draft that passed the check: it has no fault. Its field is private, so that a task comes from the check and from nowhere else.
 #[derive(Clone, Copy)]
 pub struct Task<'a> {
     draft: Draft<'a>,
+    pub ghost checked: { Faultless draft },
 }
 
 impl<'a> Task<'a> {
+    ghost use Rattle.std.specs.Prelude.{◌≡◌};
+    ghost use Rattle.tasks.specs.Tasks.{facts_of, start_of, goal_of, moves_of};
+
     // How many facts there are.
     pub fn facts(&self) -> u8
         ensures { result ≡ facts_of self.now }
@@ -53,10 +57,5 @@ impl<'a> Task<'a> {
 fn get(moves: &[Move], number: u16) -> Option<Move>
     ensures { MatchOption result ((m : Move) → At moves.now number m → ⊥) (At moves.now number) }
 {
-    let number = usize::from(number);
-    if number < moves.len() {
-        Some(moves[number])
-    } else {
-        None
-    }
+    moves.get(usize::from(number)).copied()
 }

@@ -1,7 +1,6 @@
 -- Small facts on marks and estimates.
-use Rattle.std.proofs.Common.{◌≡◌, ℕ, ◌⊎◌, sym, refl, ◌∙◌, inl, inr, arith}
-use Rattle.costs.specs.declared.estimate.Estimate.{Estimate}
-use Rattle.costs.specs.declared.estimate.Estimate.TheVariants.{Value, Never}
+use Rattle.std.proofs.Common.{◌≡◌, ℕ, ◌⊎◌, sym, refl, ◌∙◌, inl, inr, arith, None, Some}
+use Rattle.costs.specs.Estimates.{Estimate}
 use Rattle.theory.specs.declared.record.Mark.{Mark}
 use Rattle.theory.specs.declared.record.Mark.TheVariants.{Waiting, Shut}
 
@@ -16,12 +15,12 @@ unfoldable pub which : (m : Mark) → (m ≡ Shut) ⊎ (m ≡ Waiting)
 which Shut = inl refl
 which Waiting = inr refl
 
-pub value_same : {V : Type 0} {x y : V} → Value x ≡ Value y → x ≡ y
+pub value_same : {V : Type 0} {x y : V} → Some x ≡ Some y → x ≡ y
 value_same e = cc
 
-pub never_value : {V : Type 0} {e : V} → Never ≡ Value e → ⊥
+pub never_value : {V : Type 0} {e : V} → None ≡ Some e → ⊥
 never_value h = impossible (cc)
 
-unfoldable pub hoped_or_not : {V : Type 0} (o : Estimate V) → (o ≡ Never) ⊎ ((e : V) × (o ≡ Value e))
-hoped_or_not Never = inl refl
-hoped_or_not (Value e) = inr (e, refl)
+unfoldable pub hoped_or_not : {V : Type 0} (o : Estimate V) → (o ≡ None) ⊎ ((e : V) × (o ≡ Some e))
+hoped_or_not None = inl refl
+hoped_or_not (Some e) = inr (e, refl)

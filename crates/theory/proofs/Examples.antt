@@ -1,22 +1,13 @@
 -- The small task, worked through: the answers are computed, and only the lists read out are written down.
-use Rattle.std.proofs.Common.{◌≡◌, ℕ, ◌+◌, ◌^◌, ◌<◌, ◌≤◌, max, T, leb, ◌⊎◌, List, [], ◌∷◌, length, sym, refl, ap, ◌∙◌, subst, subst₂, ⊎_elim, arith, lit<, lit≤}
+use Rattle.std.proofs.Common.{◌≡◌, ℕ, ◌+◌, ◌≤◌, max, T, leb, List, [], ◌∷◌, length, sym, refl, ap, subst, subst₂, arith, lit<, lit≤}
 use native.Mathlib.Decide.{ℕ_discrete, dec_lt}
-use lib.Bits.{bit_and}
 use lib.Dec.{leb-zero}
 use Rattle.std.proofs.lemmas.Bool.Decides.{nat_tests}
-use Rattle.facts.specs.Sets.{HasFrom, Overlap}
-use Rattle.facts.specs.Words.{bit}
 use Rattle.facts.proofs.Members.{union, without}
-use Rattle.facts.proofs.Tests.{and_both, not_both}
-use Rattle.facts.proofs.Words.{bit_of_and, bit_none, bit_past}
-use Rattle.tasks.specs.Faults.{Faulty}
-use Rattle.tasks.specs.Places.{At, here, there}
-use Rattle.tasks.specs.Tasks.{Checked, draft_of}
-use Rattle.tasks.specs.declared.moves.Move.{Move}
-use Rattle.tasks.specs.declared.refusal.Place.{Place}
-use Rattle.tasks.specs.declared.refusal.Place.TheVariants.{Heading, Move as OfMove}
-use Rattle.tasks.specs.declared.refusal.Refusal.{Refusal as Fault}
-use Rattle.tasks.specs.declared.refusal.Refusal.TheVariants.{OutOfRange, UnknownFact, MakesAndBreaks}
+use Rattle.facts.proofs.Tests.{not_both}
+use Rattle.tasks.specs.Places.{here, there}
+use Rattle.tasks.specs.declared.task.Task.{Task}
+use Rattle.tasks.proofs.Fine.{is_fine}
 use Rattle.costs.specs.Laws.{Lawful}
 use Rattle.costs.proofs.Orders as orders
 use Rattle.bounds.specs.Sound.{Sound}
@@ -25,7 +16,8 @@ use Rattle.theory.specs.Records.{goal_record, goal_waits}
 use Rattle.theory.specs.Runs.{Trail, root, up, Tells, tells_plan, tells_none, tells_full, Runs, again, runs_out, finds, pauses, goes_on}
 use Rattle.theory.specs.Queue.{Event, asked, run, read_out, ran, refused, holding, Queue, made, and_call, fresh, no_place, still_kept, runs, run_refused, reads}
 use Rattle.theory.specs.Queue.{read_refused, grant_too_large, not_ended, list_too_short}
-use Rattle.theory.specs.Examples.{set_of, numbers, two_moves, task_of, blind, problem, last_records, Worked}
+use Rattle.theory.specs.Examples.{numbers, blind, problem, last_records, Worked}
+use Rattle.theory.specs.Tasks.{draft_with, two_moves, task_with, small}
 use Rattle.theory.specs.declared.record.Record.{Record}
 use Rattle.theory.specs.declared.refusal.Refusal.TheVariants.{GrantTooLarge, NotPlanned}
 use Rattle.theory.specs.declared.reply.End.{End}
@@ -68,46 +60,12 @@ largest = record {
 zero_least : (n : ℕ) → T (leb 0 n)
 zero_least n = subst T (sym (leb-zero n)) tt
 
--- sets of the three facts hold no other, and sets without a common bit do not overlap
-small_set : (n : ℕ) → n < 2 ^ 3 → HasFrom (set_of n) 3 → ⊥
-small_set n h from = not_both from.1 (bit_past n 3 from.0 h from.2)
-
-no_overlap : (n k : ℕ) → bit_and n k ≡ 0 → Overlap (set_of n) (set_of k) → ⊥
-no_overlap n k e o =
-    not_both (subst T (sym (bit_of_and n k o.0)) (and_both (bit n o.0) (bit k o.0) o.1 o.2)) (ap (λ w. bit w o.0) e ∙ bit_none o.0)
-
-checked : (start goal : ℕ) → start < 2 ^ 3 → goal < 2 ^ 3 → Checked (task_of start goal)
-checked start goal h g = faultless
-  where
-    faultless : (r : Fault) (p : Place) → Faulty (draft_of (task_of start goal)) r p → ⊥
-    faultless OutOfRange Heading f = ⊎_elim (λ l. omega arith) (λ k. ⊎_elim (λ l. omega arith) (λ l. omega arith) k) f
-    faultless UnknownFact Heading f = ⊎_elim (small_set start h) (small_set goal g) f
-    faultless MakesAndBreaks Heading f = f
-    faultless OutOfRange (OfMove k) f = each f.1 f.2
-      where
-        each : {k : ℕ} {m : Move} → At two_moves k m → 7 < m.group → ⊥
-        each here l = omega arith
-        each (there here) l = omega arith
-        each (there (there a)) l = elim a [ ]
-    faultless UnknownFact (OfMove k) f = each f.1 f.2
-      where
-        each : {k : ℕ} {m : Move} → At two_moves k m → HasFrom m.needs 3 ⊎ (HasFrom m.makes 3 ⊎ HasFrom m.breaks 3) → ⊥
-        each here l = ⊎_elim (small_set 1 (lit< tt)) (⊎_elim (small_set 2 (lit< tt)) (small_set 1 (lit< tt))) l
-        each (there here) l = ⊎_elim (small_set 0 (lit< tt)) (⊎_elim (small_set 4 (lit< tt)) (small_set 0 (lit< tt))) l
-        each (there (there a)) l = elim a [ ]
-    faultless MakesAndBreaks (OfMove k) f = each f.1 f.2
-      where
-        each : {k : ℕ} {m : Move} → At two_moves k m → Overlap m.makes m.breaks → ⊥
-        each here l = no_overlap 2 1 refl l
-        each (there here) l = no_overlap 4 0 refl l
-        each (there (there a)) l = elim a [ ]
-
-usable : (join : ℕ → ℕ → ℕ) (start goal room : ℕ) → Usable (problem join start goal room) blind
-usable join start goal room = record { fitting = refl; drawn = λ o. not_both (zero_least o.1.price) o.3 }
+usable : (join : ℕ → ℕ → ℕ) (task : Task) (room : ℕ) → Usable (problem join task room) blind
+usable join task room = record { fitting = refl; drawn = λ o. not_both (zero_least o.1.price) o.3 }
 
 -- the bound keeps its two laws
-sound : (join : ℕ → ℕ → ℕ) (start goal : ℕ) → Sound (numbers join) (task_of start goal) blind.estimate blind.share
-sound join start goal = record { within = λ s w. refl; step = λ k m s u a r. zero_least (join 0 0) }
+sound : (join : ℕ → ℕ → ℕ) (task : Task) → Sound (numbers join) task blind.estimate blind.share
+sound join task = record { within = λ s w. refl; step = λ k m s u a r. zero_least (join 0 0) }
 
 -- a way of joining costs, a start, a goal and a room
 record Setting : Type 0 where
@@ -118,21 +76,22 @@ record Setting : Type 0 where
   pub room : ℕ
   pub some : 1 ≤ room
   pub few : room ≤ 65535
-  pub small_start : start < 2 ^ 3
-  pub small_goal : goal < 2 ^ 3
+  pub fine : T (is_fine (draft_with 3 start goal two_moves))
+
+abbrev task_in : Setting → Task
+task_in S = task_with 3 S.start S.goal two_moves S.fine
 
 abbrev posed : (S : Setting) → Problem (numbers S.join)
-posed S = problem S.join S.start S.goal S.room
+posed S = problem S.join (task_in S) S.room
 
 usable_in : (S : Setting) → Usable (posed S) blind
-usable_in S = usable S.join S.start S.goal S.room
+usable_in S = usable S.join (task_in S) S.room
 
 fitting : (S : Setting) → Fitting (posed S)
 fitting S = record {
   roomy = S.some;
   laws = record { lawful = S.law };
-  checked = checked S.start S.goal S.small_start S.small_goal;
-  trusted = record { sound = sound S.join S.start S.goal; drawn = (usable_in S).drawn };
+  trusted = record { sound = sound S.join (task_in S); drawn = (usable_in S).drawn };
 }
 
 -- the length told with a plan is that of its list
@@ -202,25 +161,25 @@ and_plan S n small p i l e t =
 
 abbrev four_places : Setting
 four_places =
-    record { join = ◌+◌; law = sums; start = 1; goal = 6; room = 4; some = lit≤ tt; few = lit≤ tt; small_start = lit< tt; small_goal = lit< tt }
+    record { join = ◌+◌; law = sums; start = 1; goal = 6; room = 4; some = lit≤ tt; few = lit≤ tt; fine = tt }
 
 abbrev three_places : Setting
 three_places =
-    record { join = ◌+◌; law = sums; start = 1; goal = 6; room = 3; some = lit≤ tt; few = lit≤ tt; small_start = lit< tt; small_goal = lit< tt }
+    record { join = ◌+◌; law = sums; start = 1; goal = 6; room = 3; some = lit≤ tt; few = lit≤ tt; fine = tt }
 
 abbrev two_places : Setting
 two_places =
-    record { join = ◌+◌; law = sums; start = 1; goal = 6; room = 2; some = lit≤ tt; few = lit≤ tt; small_start = lit< tt; small_goal = lit< tt }
+    record { join = ◌+◌; law = sums; start = 1; goal = 6; room = 2; some = lit≤ tt; few = lit≤ tt; fine = tt }
 
 abbrev by_largest : Setting
 by_largest =
-    record { join = max; law = largest; start = 1; goal = 6; room = 4; some = lit≤ tt; few = lit≤ tt; small_start = lit< tt; small_goal = lit< tt }
+    record { join = max; law = largest; start = 1; goal = 6; room = 4; some = lit≤ tt; few = lit≤ tt; fine = tt }
 
 abbrev no_goal : Setting
-no_goal = record { join = ◌+◌; law = sums; start = 1; goal = 0; room = 4; some = lit≤ tt; few = lit≤ tt; small_start = lit< tt; small_goal = lit< tt }
+no_goal = record { join = ◌+◌; law = sums; start = 1; goal = 0; room = 4; some = lit≤ tt; few = lit≤ tt; fine = tt }
 
 abbrev no_start : Setting
-no_start = record { join = ◌+◌; law = sums; start = 0; goal = 6; room = 4; some = lit≤ tt; few = lit≤ tt; small_start = lit< tt; small_goal = lit< tt }
+no_start = record { join = ◌+◌; law = sums; start = 0; goal = 6; room = 4; some = lit≤ tt; few = lit≤ tt; fine = tt }
 
 -- record 3 came by move 0 from record 2, and that by move 1 from record 0
 trail : (cost : ℕ) → Trail (last_records cost) 3 (0 ∷ 1 ∷ [])
@@ -229,7 +188,7 @@ trail cost = up (λ e. omega arith) (there (there (there here))) (up (λ e. omeg
 pub worked : Worked
 unfolding new answer and_run
 worked = record {
-  honest = record { checked = checked 1 6 (lit< tt) (lit< tt); sound = λ fits. sound ◌+◌ 1 6 };
+  honest = record { sound = λ fits. sound ◌+◌ small };
   four_runs =
       (let second = and_run four_places 1 (lit≤ tt) (new four_places) in
       let third = and_run four_places 1 (lit≤ tt) second in

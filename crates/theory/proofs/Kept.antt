@@ -258,7 +258,6 @@ module _ {V : Type 0} {tally : Ghosts V} (laws : Laws tally) {P : Problem tally}
   fitting roomy usable = record {
     roomy = roomy.some;
     laws = laws;
-    checked = honest.checked;
     trusted = record { sound = honest.sound usable.fitting; drawn = usable.drawn };
   }
 

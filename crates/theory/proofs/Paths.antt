@@ -1,18 +1,17 @@
 -- Chains of regressions with their costs, and why no estimate promises too much.
-use Rattle.std.proofs.Common.{◌≡◌, ℕ, ◌≤◌, Bool, T, List, [], ◌∷◌, refl, subst}
+use Rattle.std.proofs.Common.{◌≡◌, ℕ, ◌≤◌, Bool, T, List, [], ◌∷◌, refl, subst, None, Some}
 use Rattle.facts.specs.Sets.{Within}
 use Rattle.facts.specs.declared.sets.FactSet.{FactSet}
 use Rattle.tasks.specs.Lists.{Carried, Good, Chain}
 use Rattle.tasks.specs.Moves.{Regresses}
 use Rattle.tasks.specs.Places.{At}
-use Rattle.tasks.specs.Tasks.{start_of, goal_of, moves_of, Checked}
+use Rattle.tasks.specs.Tasks.{start_of, goal_of, moves_of}
 use Rattle.tasks.specs.declared.moves.Move.{Move}
 use Rattle.tasks.proofs.Chains.{chains_are_good_lists, good_lists_have_chains}
 use Rattle.tasks.proofs.Places.{at_same}
 use Rattle.costs.specs.Estimates.{not_above, join_each}
 use Rattle.costs.specs.Lists.{charge_of, Costs, nothing, and_move}
-use Rattle.costs.specs.declared.estimate.Estimate.{Estimate}
-use Rattle.costs.specs.declared.estimate.Estimate.TheVariants.{Value, Never}
+use Rattle.costs.specs.Estimates.{Estimate}
 use Rattle.costs.specs.declared.tally.Tally.{Ghosts}
 use Rattle.bounds.specs.Sound.{Trusted}
 use Rattle.bounds.proofs.Floors.{sublist_costs, floor_step, floor_along}
@@ -24,7 +23,6 @@ use Rattle.theory.proofs.Order.{Laws, Le}
 pub record Fitting {V : Type 0} {tally : Ghosts V} (P : Problem tally) : Type 0 where
   pub roomy : 1 ≤ P.room
   pub laws : Laws tally
-  pub checked : Checked P.task
   pub trusted : Trusted tally P.task P.bound.estimate P.bound.share
 
 -- a chain together with the cost of its list
@@ -67,10 +65,10 @@ pub record Way {V : Type 0} {tally : Ghosts V} (P : Problem tally) (v : V) : Typ
   pub cheap : Le tally cost v
 
 value_below : {V : Type 0} (at_most : V → V → Bool) (join : V → V → V) (w : V) (o p : Estimate V) (e : V)
-    → T (not_above at_most o (join_each join (Value w) p)) → p ≡ Value e → (d : V) × (o ≡ Value d) × T (at_most d (join w e))
-value_below at_most join w o Never e h eq = impossible (cc)
-value_below at_most join w Never (Value f) e h eq = absurd h
-value_below at_most join w (Value d) (Value f) e h eq =
+    → T (not_above at_most o (join_each join (Some w) p)) → p ≡ Some e → (d : V) × (o ≡ Some d) × T (at_most d (join w e))
+value_below at_most join w o None e h eq = impossible (cc)
+value_below at_most join w None (Some f) e h eq = absurd h
+value_below at_most join w (Some d) (Some f) e h eq =
     let same : f ≡ e = cc in (d, refl, subst (λ z. T (at_most d (join w z))) same h)
 
 module _ {V : Type 0} {tally : Ghosts V} {P : Problem tally} (F : Fitting P) where
@@ -80,7 +78,7 @@ module _ {V : Type 0} {tally : Ghosts V} {P : Problem tally} (F : Fitting P) whe
   -- what a list carries out, regression can follow, skipping the moves that make nothing of the set
   pub good_way : {l : List ℕ} {v : V} → Good P.task l → Costs tally (moves_of P.task) l v → Way P v
   good_way {l = l} good costs =
-      let found = good_lists_have_chains P.task F.checked l good in
+      let found = good_lists_have_chains P.task l good in
       let less = sublist_costs laws.lawful found.2 costs in
       record {
         moves = found.0;
@@ -92,16 +90,16 @@ module _ {V : Type 0} {tally : Ghosts V} {P : Problem tally} (F : Fitting P) whe
       }
 
   -- where the estimate of t is a value, so is that of s, at most the charge more
-  pub consistent : {k : ℕ} {m : Move} {s t : FactSet} → At (moves_of P.task) k m → Regresses m s t → {e : V} → P.bound.estimate t ≡ Value e
-      → (d : V) × (P.bound.estimate s ≡ Value d) × Le tally d (tally.join (charge_of tally m) e)
+  pub consistent : {k : ℕ} {m : Move} {s t : FactSet} → At (moves_of P.task) k m → Regresses m s t → {e : V} → P.bound.estimate t ≡ Some e
+      → (d : V) × (P.bound.estimate s ≡ Some d) × Le tally d (tally.join (charge_of tally m) e)
   consistent {m = m} {s = s} {t = t} at r {e} h =
       let got = value_below tally.at_most tally.join (charge_of tally m) (P.bound.estimate s) (P.bound.estimate t) e
       (floor_step laws.lawful F.trusted at r) h in
       (got.0, got.1, record { holds = got.2 })
 
   -- the estimate of s is at most the cost of a chain joined with the estimate where it ends
-  pub admissible : {s u : FactSet} {l : List ℕ} {w : V} → Leads P s l u w → {e : V} → P.bound.estimate u ≡ Value e
-      → (d : V) × (P.bound.estimate s ≡ Value d) × Le tally d (tally.join w e)
+  pub admissible : {s u : FactSet} {l : List ℕ} {w : V} → Leads P s l u w → {e : V} → P.bound.estimate u ≡ Some e
+      → (d : V) × (P.bound.estimate s ≡ Some d) × Le tally d (tally.join w e)
   admissible {s} {u} {w = w} p {e} h =
       let got = value_below tally.at_most tally.join w (P.bound.estimate s) (P.bound.estimate u) e
       (floor_along laws.lawful F.trusted (leads_chain p) (leads_costs p)) h in

@@ -1,5 +1,5 @@
 -- How a search stands after any number of openings: what its end is worth.
-use Rattle.std.proofs.Common.{◌≡◌, ℕ, zero, suc, ◌≤◌, List, [], ◌∷◌, map, length, set as put, sym, refl, ap, ◌∙◌, subst, arith}
+use Rattle.std.proofs.Common.{◌≡◌, ℕ, zero, suc, ◌≤◌, List, [], ◌∷◌, map, length, set as put, sym, refl, ap, ◌∙◌, subst, arith, Some}
 use lib.ListN.{length-map}
 use Rattle.facts.specs.Sets.{Within}
 use Rattle.facts.specs.declared.sets.FactSet.{FactSet}
@@ -8,7 +8,6 @@ use Rattle.tasks.specs.Places.{At, here, there}
 use Rattle.tasks.specs.Tasks.{start_of, goal_of, moves_of}
 use Rattle.tasks.specs.declared.moves.Move.{Move}
 use Rattle.costs.specs.Lists.{Costs}
-use Rattle.costs.specs.declared.estimate.Estimate.TheVariants.{Value}
 use Rattle.costs.specs.declared.tally.Tally.{Ghosts}
 use Rattle.theory.specs.Problem.{Problem}
 use Rattle.theory.specs.Meets.{Meets, MeetsMore}
@@ -47,7 +46,7 @@ module _ {V : Type 0} {tally : Ghosts V} {P : Problem tally} (F : Fitting P) whe
   abbrev laws : Laws tally
   laws = F.laws
 
-  unfoldable pub alone : {e : V} → P.bound.estimate (goal_of P.task) ≡ Value e → (r : Record V) → r.set ≡ goal_of P.task
+  unfoldable pub alone : {e : V} → P.bound.estimate (goal_of P.task) ≡ Some e → (r : Record V) → r.set ≡ goal_of P.task
       → r.spent ≡ tally.nil → r.promise ≡ e → r.mark ≡ Waiting → Standing P (r ∷ []) Going
   alone {e} h r is-goal is-nil is-e waits = at_work
       (record {

@@ -1,5 +1,5 @@
 -- What holds of the records between openings, and why it makes the first promise a floor.
-use Rattle.std.proofs.Common.{◌≡◌, ℕ, zero, ◌≤◌, List, [], ◌∷◌, length, sym, ap, ◌∙◌, subst, inl, inr}
+use Rattle.std.proofs.Common.{◌≡◌, ℕ, zero, ◌≤◌, List, [], ◌∷◌, length, sym, ap, ◌∙◌, subst, inl, inr, None, Some}
 use Rattle.facts.specs.Sets.{Within}
 use Rattle.facts.specs.declared.sets.FactSet.{FactSet}
 use Rattle.tasks.specs.Lists.{Good}
@@ -8,7 +8,6 @@ use Rattle.tasks.specs.Places.{At}
 use Rattle.tasks.specs.Tasks.{start_of, goal_of, moves_of}
 use Rattle.tasks.specs.declared.moves.Move.{Move}
 use Rattle.costs.specs.Lists.{charge_of, Costs}
-use Rattle.costs.specs.declared.estimate.Estimate.TheVariants.{Value, Never}
 use Rattle.costs.specs.declared.tally.Tally.{Ghosts}
 use Rattle.costs.proofs.Orders as orders
 use Rattle.theory.specs.Problem.{Problem}
@@ -31,13 +30,13 @@ pub data Rooted {V : Type 0} {tally : Ghosts V} (P : Problem tally) (recs : List
 
 pub record Estimated {V : Type 0} {tally : Ghosts V} (P : Problem tally) (r : Record V) : Type 0 where
   pub hope : V
-  pub is : P.bound.estimate r.set ≡ Value hope
+  pub is : P.bound.estimate r.set ≡ Some hope
   pub promised : r.promise ≡ tally.join r.spent hope
 
 pub record Table {V : Type 0} {tally : Ghosts V} (P : Problem tally) (recs : List (Record V)) : Type 0 where
   pub estimated : {i : ℕ} {r : Record V} → At recs i r → Estimated P r
   pub ordered : {i j : ℕ} {r q : Record V} → At recs i r → At recs j q → r.mark ≡ Shut → q.mark ≡ Waiting → Key tally r q
-  pub goal_first : {e : V} → P.bound.estimate (goal_of P.task) ≡ Value e
+  pub goal_first : {e : V} → P.bound.estimate (goal_of P.task) ≡ Some e
       → (r : Record V) × At recs zero r × (r.set ≡ goal_of P.task) × (r.spent ≡ tally.nil)
   pub distinct : {i j : ℕ} {r q : Record V} → At recs i r → At recs j q → r.set ≡ q.set → i ≡ j
   pub outside : {i : ℕ} {r : Record V} → At recs i r → r.mark ≡ Shut → Within r.set (start_of P.task) → ⊥
@@ -54,7 +53,7 @@ pub record Kept {V : Type 0} {tally : Ghosts V} (P : Problem tally) (recs : List
 
 -- what move k makes of the record r has been recorded
 pub record Covered {V : Type 0} {tally : Ghosts V} (P : Problem tally) (recs : List (Record V)) (r : Record V) (k : ℕ) : Type 0 where
-  pub keeps : {m : Move} {t : FactSet} {e : V} → At (moves_of P.task) k m → Regresses m r.set t → P.bound.estimate t ≡ Value e
+  pub keeps : {m : Move} {t : FactSet} {e : V} → At (moves_of P.task) k m → Regresses m r.set t → P.bound.estimate t ≡ Some e
       → Kept P recs t (tally.join r.spent (charge_of tally m))
 
 pub record Settled {V : Type 0} {tally : Ghosts V} (P : Problem tally) (recs : List (Record V)) : Type 0 where
@@ -65,7 +64,7 @@ pub data Front {V : Type 0} {tally : Ghosts V} (P : Problem tally) (recs : List 
   passed : {i : ℕ} {r : Record V} → At recs i r → r.mark ≡ Shut → r.set ≡ u → Le tally r.spent v → Front P recs u v
   waits : {i : ℕ} {q : Record V} {l : List ℕ} {w : V} → At recs i q → q.mark ≡ Waiting → Leads P q.set l u w
       → Le tally (tally.join q.spent w) v → Front P recs u v
-  hopeless : P.bound.estimate u ≡ Never → Front P recs u v
+  hopeless : P.bound.estimate u ≡ None → Front P recs u v
 
 module _ {V : Type 0} {tally : Ghosts V} {P : Problem tally} where
   pub rooted_at : {recs : List (Record V)} {i : ℕ} {r : Record V} {l : List ℕ} → Rooted P recs i r l → At recs i r
@@ -126,7 +125,7 @@ module _ {V : Type 0} {tally : Ghosts V} {P : Problem tally} (F : Fitting P) whe
         way : Way P v
         way = good_way F good costs
 
-        there : P.bound.estimate way.last ≡ Value tally.nil
+        there : P.bound.estimate way.last ≡ Some tally.nil
         there = F.trusted.sound.within way.last way.within
 
         found : Front P recs way.last way.cost → (i : ℕ) × (q : Record V) × At recs i q × (q.mark ≡ Waiting) × Le tally q.promise v

@@ -1,40 +1,25 @@
 -- A small task worked through by the rules: two moves, and a bound that knows nothing.
-use Rattle.std.specs.Prelude.{ℕ, ◌+◌, max, true, nat_le, List, [], ◌∷◌}
-use Rattle.facts.specs.declared.sets.FactSet.{FactSet}
-use Rattle.tasks.specs.declared.moves.Move.{Move}
+use Rattle.std.specs.Prelude.{ℕ, ◌+◌, max, true, nat_le, List, [], ◌∷◌, Some}
 use Rattle.tasks.specs.declared.task.Task.{Task}
-use Rattle.costs.specs.declared.estimate.Estimate.TheVariants.{Value}
 use Rattle.costs.specs.declared.tally.Tally.{Ghosts}
 use Rattle.theory.specs.Problem.{Problem, Lent, Honest}
 use Rattle.theory.specs.Queue.{Event, Queue, asked, run, read_out, ran, read, refused, kept, holding}
+use Rattle.theory.specs.Tasks.{set_of, small, goalless, startless}
 use Rattle.theory.specs.declared.record.Mark.TheVariants.{Waiting, Shut}
 use Rattle.theory.specs.declared.record.Record.{Record}
 use Rattle.theory.specs.declared.refusal.Refusal.TheVariants.{TableSize, GrantTooLarge, NotPlanned, ListTooShort}
 use Rattle.theory.specs.declared.reply.End.TheVariants.{Going, Planned, Exhausted, Filled}
 use Rattle.theory.specs.declared.reply.Kind.TheVariants.{Pending, Plan, NoPlan, Full}
 
--- bit f of the number says whether fact f is in the set
-abbrev pub set_of : ℕ → FactSet
-set_of n = record { word = n }
-
 -- costs as numbers, which are joined as given
 abbrev pub numbers : (ℕ → ℕ → ℕ) → Ghosts ℕ
 numbers join = record { at_most = nat_le; nil = 0; join = join; charge = λ price group. price }
 
--- move 0 needs fact 0, makes fact 1 and breaks fact 0, at 15; move 1 makes fact 2, at 4
-abbrev pub two_moves : List Move
-two_moves = record { group = 0; price = 15; needs = set_of 1; makes = set_of 2; breaks = set_of 1 }
-    ∷ record { group = 1; price = 4; needs = set_of 0; makes = set_of 4; breaks = set_of 0 } ∷ []
-
-abbrev pub task_of : ℕ → ℕ → Task
-task_of start goal =
-    record { draft = record { facts = 3; start = set_of start; goal = set_of goal; moves = record { ref_ptr = (0, 0); now = two_moves } } }
-
 abbrev pub blind : Lent ℕ
-blind = record { fits = true; estimate = λ s. Value 0; share = λ k. 0 }
+blind = record { fits = true; estimate = λ s. Some 0; share = λ k. 0 }
 
-abbrev pub problem : (join : ℕ → ℕ → ℕ) → ℕ → ℕ → ℕ → Problem (numbers join)
-problem join start goal room = record { task = task_of start goal; bound = blind; room = room }
+abbrev pub problem : (join : ℕ → ℕ → ℕ) → Task → ℕ → Problem (numbers join)
+problem join task room = record { task = task; bound = blind; room = room }
 
 -- a run, with the answer that tells a kind, openings, a value and a length
 abbrev pub pends : ℕ → ℕ → ℕ → Event ℕ
@@ -56,20 +41,19 @@ last_records cost = record { set = set_of 6; spent = 0; promise = 0; parent = 65
     ∷ record { set = set_of 2; spent = 4; promise = 4; parent = 0; via = 1; mark = Shut }
     ∷ record { set = set_of 1; spent = cost; promise = cost; parent = 2; via = 0; mark = Waiting } ∷ []
 
--- from fact 0 to facts 1 and 2; the latest call stands first
+-- the latest call stands first
 pub record Worked : Type 0 where
   -- the promises speak of this problem
-  pub honest : Honest (problem ◌+◌ 1 6 4)
-  pub four_runs : Queue (problem ◌+◌ 1 6 4) (plans 1 1 19 2 ∷ pends 0 0 15 ∷ pends 1 1 15 ∷ pends 1 1 4 ∷ []) (holding (last_records 19) (Planned 3))
-  pub room_for_three : (recs : List (Record ℕ)) × Queue (problem ◌+◌ 1 6 3) (fills 9 1 4 ∷ []) (holding recs (Filled 2))
-  pub room_for_two : (recs : List (Record ℕ)) × Queue (problem ◌+◌ 1 6 2) (fills 9 0 0 ∷ []) (holding recs (Filled 0))
+  pub honest : Honest (problem ◌+◌ small 4)
+  pub four_runs : Queue (problem ◌+◌ small 4) (plans 1 1 19 2 ∷ pends 0 0 15 ∷ pends 1 1 15 ∷ pends 1 1 4 ∷ []) (holding (last_records 19) (Planned 3))
+  pub room_for_three : (recs : List (Record ℕ)) × Queue (problem ◌+◌ small 3) (fills 9 1 4 ∷ []) (holding recs (Filled 2))
+  pub room_for_two : (recs : List (Record ℕ)) × Queue (problem ◌+◌ small 2) (fills 9 0 0 ∷ []) (holding recs (Filled 0))
   -- where the larger charge counts; the list that was read out does not fit into one place
-  pub largest : Queue (problem max 1 6 4)
+  pub largest : Queue (problem max small 4)
       (asked (read_out 1) (refused ListTooShort) ∷ asked (read_out 2) (read (0 ∷ 1 ∷ [])) ∷ plans 4 3 15 2 ∷ []) (holding (last_records 15) (Planned 3))
-  pub empty_goal : (recs : List (Record ℕ)) × Queue (problem ◌+◌ 1 0 4) (plans 0 0 0 0 ∷ []) (holding recs (Planned 0))
-  -- nothing in the start
-  pub empty_start : (recs : List (Record ℕ)) × Queue (problem ◌+◌ 0 6 4) (gives_up 4 4 ∷ []) (holding recs Exhausted)
+  pub empty_goal : (recs : List (Record ℕ)) × Queue (problem ◌+◌ goalless 4) (plans 0 0 0 0 ∷ []) (holding recs (Planned 0))
+  pub empty_start : (recs : List (Record ℕ)) × Queue (problem ◌+◌ startless 4) (gives_up 4 4 ∷ []) (holding recs Exhausted)
   -- calls that are refused change nothing
-  pub not_yet : (recs : List (Record ℕ)) × Queue (problem ◌+◌ 0 6 4)
+  pub not_yet : (recs : List (Record ℕ)) × Queue (problem ◌+◌ startless 4)
       (pends 3 3 19 ∷ asked (read_out 9) (refused NotPlanned) ∷ asked (run 65537 blind) (refused GrantTooLarge) ∷ []) (holding recs Going)
-  pub no_table : Queue (problem ◌+◌ 1 6 0) (asked (run 1 blind) (refused TableSize) ∷ []) (kept TableSize)
+  pub no_table : Queue (problem ◌+◌ small 0) (asked (run 1 blind) (refused TableSize) ∷ []) (kept TableSize)

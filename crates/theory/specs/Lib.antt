@@ -7,3 +7,4 @@ pub mod Refusals
 pub mod Queue
 pub mod Promise
 pub mod Examples
+pub mod Tasks

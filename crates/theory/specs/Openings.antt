@@ -1,12 +1,11 @@
 -- The opening of a choice: one constructor for each thing that a move can come to.
-use Rattle.std.specs.Prelude.{◌≡◌, ℕ, zero, suc, ◌<◌, ◌≤◌, List, [], ◌∷◌, ◌++◌, length, set as put}
+use Rattle.std.specs.Prelude.{◌≡◌, ℕ, zero, suc, ◌<◌, ◌≤◌, List, [], ◌∷◌, ◌++◌, length, set as put, None, Some}
 use Rattle.facts.specs.declared.sets.FactSet.{FactSet}
 use Rattle.tasks.specs.Moves.{Regresses}
 use Rattle.tasks.specs.Places.{At}
 use Rattle.tasks.specs.Tasks.{moves_of}
 use Rattle.tasks.specs.declared.moves.Move.{Move}
 use Rattle.costs.specs.Lists.{charge_of}
-use Rattle.costs.specs.declared.estimate.Estimate.TheVariants.{Value, Never}
 use Rattle.costs.specs.declared.tally.Tally.{Ghosts}
 use Rattle.theory.specs.Problem.{Problem, AtMost, Lower}
 use Rattle.theory.specs.Records.{shutting}
@@ -25,7 +24,7 @@ child {tally = tally} P i c k m t e =
 -- the move regresses the choice's set to t, whose estimate is the value e
 pub record LeadsTo {V : Type 0} {tally : Ghosts V} (P : Problem tally) (c : Record V) (m : Move) (t : FactSet) (e : V) : Type 0 where
   pub regresses : Regresses m c.set t
-  pub hoped : P.bound.estimate t ≡ Value e
+  pub hoped : P.bound.estimate t ≡ Some e
 
 -- record j, which is q, is that of the set t
 pub record Recorded {V : Type 0} (recs : List (Record V)) (t : FactSet) (j : ℕ) (q : Record V) : Type 0 where
@@ -38,7 +37,7 @@ Unrecorded {V} recs t = (j : ℕ) (q : Record V) → Recorded recs t j q → ⊥
 -- the records after one move is taken from the choice
 pub data Takes {V : Type 0} {tally : Ghosts V} (P : Problem tally) (recs : List (Record V)) (i : ℕ) (c : Record V) (k : ℕ) (m : Move) : List (Record V) → Type 0 where
   not_regressing : ((t : FactSet) → Regresses m c.set t → ⊥) → Takes P recs i c k m recs
-  passed_over : {t : FactSet} → Regresses m c.set t → P.bound.estimate t ≡ Never → Takes P recs i c k m recs
+  passed_over : {t : FactSet} → Regresses m c.set t → P.bound.estimate t ≡ None → Takes P recs i c k m recs
   -- a waiting record of the set takes all four new entries
   bettered : {t : FactSet} {j : ℕ} {e : V} {q : Record V} → LeadsTo P c m t e → Recorded recs t j q → q.mark ≡ Waiting
       → Lower tally (spent_by P c m) q.spent → Takes P recs i c k m (put recs j (child P i c k m t e))

@@ -1,9 +1,8 @@
 -- What a search is made from: a kind of cost, a task, a bound and a number of places for records.
 use Rattle.std.specs.Prelude.{◌≡◌, ℕ, ◌≤◌, Bool, true, false, T}
 use Rattle.facts.specs.declared.sets.FactSet.{FactSet}
-use Rattle.tasks.specs.Tasks.{Checked}
 use Rattle.tasks.specs.declared.task.Task.{Task}
-use Rattle.costs.specs.declared.estimate.Estimate.{Estimate}
+use Rattle.costs.specs.Estimates.{Estimate}
 use Rattle.costs.specs.declared.tally.Tally.{Ghosts}
 use Rattle.bounds.specs.Sound.{Sound, Overdrawn}
 
@@ -43,7 +42,6 @@ pub record Roomy {V : Type 0} {tally : Ghosts V} (P : Problem tally) : Type 0 wh
   pub some : 1 ≤ P.room
   pub few : P.room ≤ 65535
 
--- what the promises suppose: the task is checked, and a bound that fits keeps its two laws
+-- what the promises suppose: a bound that fits keeps its two laws
 pub record Honest {V : Type 0} {tally : Ghosts V} (P : Problem tally) : Type 0 where
-  pub checked : Checked P.task
   pub sound : P.bound.fits ≡ true → Sound tally P.task P.bound.estimate P.bound.share

@@ -1,8 +1,7 @@
 -- The records of a new search, and which of them is the choice.
-use Rattle.std.specs.Prelude.{◌≡◌, ℕ, ◌≤◌, List, [], ◌∷◌, ◌≢◌}
+use Rattle.std.specs.Prelude.{◌≡◌, ℕ, ◌≤◌, List, [], ◌∷◌, ◌≢◌, None, Some}
 use Rattle.tasks.specs.Places.{At}
 use Rattle.tasks.specs.Tasks.{goal_of}
-use Rattle.costs.specs.declared.estimate.Estimate.TheVariants.{Value, Never}
 use Rattle.costs.specs.declared.tally.Tally.{Ghosts}
 use Rattle.theory.specs.Problem.{Problem, Lower}
 use Rattle.theory.specs.declared.record.Mark.TheVariants.{Waiting, Shut}
@@ -14,8 +13,8 @@ goal_record {tally = tally} P e = record { set = goal_of P.task; spent = tally.n
 
 -- the records of a new search: none where the estimate of the goal is never
 pub data First {V : Type 0} {tally : Ghosts V} (P : Problem tally) : List (Record V) → Type 0 where
-  goal_waits : {e : V} → P.bound.estimate (goal_of P.task) ≡ Value e → First P (goal_record P e ∷ [])
-  no_hope : P.bound.estimate (goal_of P.task) ≡ Never → First P []
+  goal_waits : {e : V} → P.bound.estimate (goal_of P.task) ≡ Some e → First P (goal_record P e ∷ [])
+  no_hope : P.bound.estimate (goal_of P.task) ≡ None → First P []
 
 -- record r, number i, comes before record q, number j: by promise, then spent, then number
 pub data Ahead {V : Type 0} (tally : Ghosts V) (r : Record V) (i : ℕ) (q : Record V) (j : ℕ) : Type 0 where

@@ -5,30 +5,23 @@ ghost use Rattle.theory.specs.Refusals.{number_of};
 #[derive(Clone, Copy, PartialEq, Eq)]
 pub enum Refusal {
     // the table has no place, or more than 65,535
-    TableSize,
+    TableSize = 8,
     // the bound does not fit the task
-    Misfit,
+    Misfit = 9,
     // the bound is overdrawn: some move's share is above its charge
-    Overdrawn,
+    Overdrawn = 10,
     // the grant is above 65,536
-    GrantTooLarge,
+    GrantTooLarge = 11,
     // the search has not ended with a plan
-    NotPlanned,
+    NotPlanned = 12,
     // the list lent has fewer places than the plan has moves
-    ListTooShort,
+    ListTooShort = 13,
 }
 
 impl Refusal {
     pub fn number(self) -> u16
         ensures { result ≡ number_of self }
     {
-        match self {
-            Refusal::TableSize => 8,
-            Refusal::Misfit => 9,
-            Refusal::Overdrawn => 10,
-            Refusal::GrantTooLarge => 11,
-            Refusal::NotPlanned => 12,
-            Refusal::ListTooShort => 13,
-        }
+        self as u16
     }
 }

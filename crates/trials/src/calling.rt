@@ -65,8 +65,8 @@ fn an_overdrawn_bound(rt: HostRuntime) -> Result<(), Fail> {
     let Ok(task) = checked(draft_of(&moves)?) else {
         return Err(Fail::new("refused"));
     };
-    let mut all = [Estimate::<Minutes>::Never; 3];
-    let mut second = [Estimate::<Minutes>::Never; 3];
+    let mut all: [Estimate<Minutes>; 3] = [None; 3];
+    let mut second: [Estimate<Minutes>; 3] = [None; 3];
     assert!(rt; work_out_single(&task, 255, &mut all).is_ok());
     assert!(rt; work_out_single(&task, 2, &mut second).is_ok());
     let bound = Sum {
@@ -96,7 +96,7 @@ fn a_bound_of_another_task(rt: HostRuntime) -> Result<(), Fail> {
     let Ok(other) = checked(draft_of(&moves[0..1])?) else {
         return Err(Fail::new("refused"));
     };
-    let mut costs = [Estimate::<Minutes>::Never; 3];
+    let mut costs: [Estimate<Minutes>; 3] = [None; 3];
     assert!(rt; work_out_single(&other, 255, &mut costs).is_ok());
     let bound = Single::of(&other, 255, &costs);
     let blind = Blind::<Minutes> { of: PhantomData };

@@ -164,7 +164,7 @@ fn a_bound_that_knows(rt: HostRuntime) -> Result<(), Fail> {
     let Ok(task) = checked(draft) else {
         return Err(Fail::new("refused"));
     };
-    let mut pairs = [Estimate::<Minutes>::Never; 9];
+    let mut pairs: [Estimate<Minutes>; 9] = [None; 9];
     assert!(rt; work_out_pair(&task, 255, &mut pairs).is_ok());
     let bound = Pair::of(&task, 255, &pairs);
     let mut table = [blank(); 4];

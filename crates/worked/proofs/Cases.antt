@@ -1,5 +1,5 @@
 -- The cases worked through.
-use Rattle.std.proofs.Common.{◌≡◌, ℕ, false, T, ltb, leb, List, [], ◌∷◌, sym, refl, arith, lit<, lit≤}
+use Rattle.std.proofs.Common.{◌≡◌, ℕ, false, T, leb, List, [], ◌∷◌, sym, refl, arith, lit<, lit≤}
 use Rattle.facts.specs.Words.{bit}
 use Rattle.facts.proofs.Tests.{not_both, not_true_false}
 use Rattle.tasks.specs.Places.{At, here, there}
@@ -17,6 +17,7 @@ use Rattle.theory.specs.Queue.{State, Makes, no_place, fresh, overdrawn, Event, 
 use Rattle.theory.specs.Queue.{not_ended, list_too_short}
 use Rattle.theory.specs.Records.{goal_waits, no_hope}
 use Rattle.theory.specs.Runs.{Trail, root, up, runs_out}
+use Rattle.theory.specs.Tasks.{set_of, two_moves, small, goalless, startless}
 use Rattle.theory.specs.declared.record.Mark.TheVariants.{Waiting, Shut}
 use Rattle.theory.specs.declared.record.Record.{Record}
 use Rattle.theory.specs.declared.reply.End.TheVariants.{Going}
@@ -24,28 +25,24 @@ use Rattle.theory.proofs.Single.{makes_same}
 use Rattle.worked.specs.Cases.{Goes, Made, WorkedCases}
 use Rattle.worked.specs.Costs.{minutes, worst}
 use Rattle.worked.specs.Lending.{blind, every_group, only_group, Table, reading, summed, posing}
-use Rattle.worked.specs.Tasks.{set_of, two_moves, task_from, small, goalless, startless}
 use Rattle.worked.proofs.Laws.{minutes_lawful, minutes_laws, worst_lawful}
 use Rattle.worked.proofs.Only.{Own, goes}
 use Rattle.worked.proofs.Play.{Posed, Played, new, answer, and_run, and_plan}
 use Rattle.worked.proofs.Tables as tables
-use Rattle.worked.proofs.Tasks.{checked}
 
 module _ {V : Type 0} {tally : Ghosts V} where
-  module _ (laws : Lawful tally.at_most tally.nil tally.join) (start goal : ℕ) (s : T (ltb start 8)) (g : T (ltb goal 8)) (room : ℕ) where
+  module _ (laws : Lawful tally.at_most tally.nil tally.join) (t : Task) (room : ℕ) where
     -- blind keeps its two laws, and is not overdrawn
-    honest : Honest (posing tally (task_from start goal) (blind tally) room)
+    honest : Honest (posing tally t (blind tally) room)
     honest = record {
-      checked = checked start goal (lit< s) (lit< g);
       sound = λ fits. record { within = λ s w. refl; step = λ k m s u a r. laws.least (tally.join tally.nil tally.nil) };
     }
 
-    posed : T (leb 1 room) → T (leb room 65535) → Posed (posing tally (task_from start goal) (blind tally) room)
+    posed : T (leb 1 room) → T (leb room 65535) → Posed (posing tally t (blind tally) room)
     posed some few = record {
       fitting = record {
         roomy = lit≤ some;
         laws = record { lawful = laws };
-        checked = honest.checked;
         trusted = record {
           sound = honest.sound refl;
           drawn = λ o. not_both (laws.least (charge_of tally o.1)) o.3;
@@ -57,7 +54,7 @@ module _ {V : Type 0} {tally : Ghosts V} where
 
   shown : {P : Problem tally} {es : List (Event V)} {now : State V} → Posed P → Own P es → Queue P es now → Goes P es
   shown {P} p own q =
-      goes P p.fitting.laws.lawful (record { checked = p.fitting.checked; sound = λ fits. p.fitting.trusted.sound }) own q
+      goes P p.fitting.laws.lawful (record { sound = λ fits. p.fitting.trusted.sound }) own q
 
   made_so : {P : Problem tally} {state : State V} → Makes P state → Made P state
   made_so {P} m = record { makes = m; only = λ other n. makes_same P n m }
@@ -78,16 +75,16 @@ trail : {V : Type 0} (tally : Ghosts V) (cost : V) → Trail (last_records tally
 trail tally cost = up (λ e. omega arith) (there (there (there here))) (up (λ e. omega arith) (there (there here)) root)
 
 small_by_minutes : (room : ℕ) → T (leb 1 room) → T (leb room 65535) → Posed (posing minutes small (blind minutes) room)
-small_by_minutes = posed minutes_lawful 1 6 tt tt
+small_by_minutes = posed minutes_lawful small
 
 small_by_worst : Posed (posing worst small (blind worst) 4)
-small_by_worst = posed worst_lawful 1 6 tt tt 4 tt tt
+small_by_worst = posed worst_lawful small 4 tt tt
 
 goalless_by_minutes : Posed (posing minutes goalless (blind minutes) 4)
-goalless_by_minutes = posed minutes_lawful 1 0 tt tt 4 tt tt
+goalless_by_minutes = posed minutes_lawful goalless 4 tt tt
 
 startless_by_minutes : Posed (posing minutes startless (blind minutes) 4)
-startless_by_minutes = posed minutes_lawful 0 6 tt tt 4 tt tt
+startless_by_minutes = posed minutes_lawful startless 4 tt tt
 
 -- where only the worst price counts, no share of the sum is above its charge
 worst_usable : (one : Table worst small every_group 1) (other : Table worst small (only_group 1) 1) → Usable (posing worst small (summed worst (reading one) (reading other)) 4) (summed worst (reading one) (reading other))
@@ -114,7 +111,7 @@ worked_cases = record {
       (and_call (and_plan p 1 (lit≤ tt) fourth 3 (0 ∷ 1 ∷ []) refl (trail minutes (held 19))) (reads (trail minutes (held 19)) (lit≤ tt))));
   room_for_three = (let p = small_by_minutes 3 tt tt in shown p (refl, tt) (and_run p 9 (lit≤ tt) (new p (held 0) refl)).queue);
   room_for_two = (let p = small_by_minutes 2 tt tt in shown p (refl, tt) (and_run p 9 (lit≤ tt) (new p (held 0) refl)).queue);
-  no_room = goes (posing minutes small (blind minutes) 0) minutes_lawful (honest minutes_lawful 1 6 tt tt 0) (refl, tt) (and_call (made (no_place refl)) still_kept);
+  no_room = goes (posing minutes small (blind minutes) 0) minutes_lawful (honest minutes_lawful small 0) (refl, tt) (and_call (made (no_place refl)) still_kept);
   by_worst =
       (let p = small_by_worst in
       let read = trail worst (single 15) in
@@ -136,7 +133,7 @@ worked_cases = record {
   no_way_by_pairs = record {
     one = (tables.startless_by_pairs).one;
     all = λ pairs. goes (posing minutes startless (reading pairs) 4) minutes_lawful
-        (record { checked = checked 0 6 (lit< tt) (lit< tt); sound = λ fits. tables.startless_bound pairs }) (refl, tt)
+        (record { sound = λ fits. tables.startless_bound pairs }) (refl, tt)
         (and_call (made (fresh four (pairs_usable pairs) (no_hope ((tables.startless_by_pairs).all pairs))))
         (runs (lit≤ tt) (pairs_usable pairs) (runs_out (λ j q a w. elim a [ ]))));
   };

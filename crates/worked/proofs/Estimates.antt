@@ -10,7 +10,7 @@ use Rattle.tasks.specs.Tasks.{start_of, moves_of}
 use Rattle.tasks.specs.declared.moves.Move.{Move}
 use Rattle.tasks.specs.declared.task.Task.{Task}
 use Rattle.costs.specs.Estimates.{not_above}
-use Rattle.costs.specs.declared.estimate.Estimate.{Estimate}
+use Rattle.costs.specs.Estimates.{Estimate}
 use Rattle.costs.specs.declared.tally.Tally.{Ghosts}
 use Rattle.bounds.specs.Sound.{NotAbove, Sound}
 use Rattle.tables.specs.Equation.{Setting, Greatest}
@@ -23,7 +23,7 @@ use Rattle.tables.proofs.Order.{LawsOf}
 use Rattle.tables.proofs.Solutions.{Known, nil_start, closed_all, greatest}
 use Rattle.tables.proofs.Soundness.{sound}
 use Rattle.tables.proofs.TwoFacts.{pairs_shape, pairs_tops, pair_rules, pair_own}
-use Rattle.worked.specs.Tasks.{set_of}
+use Rattle.theory.specs.Tasks.{set_of}
 use Rattle.worked.proofs.Rounds.{Layout, round, round_sure, allowed, all_allowed}
 
 pub decides_below : (m n : ℕ) → Decides (ltb m n) (m < n)

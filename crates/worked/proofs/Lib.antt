@@ -1,5 +1,4 @@
 pub mod Laws
-pub mod Tasks
 pub mod Rounds
 pub mod Estimates
 pub mod Tables

@@ -1,5 +1,5 @@
 -- The places of a table lowered round by round, which is computed; where a round lowers none, they are the greatest solution.
-use Rattle.std.proofs.Common.{◌≡◌, ℕ, zero, suc, Bool, cond, ◌⊎◌, List, [], ◌∷◌, Decides, sym, refl, ◌∙◌, subst, inl, inr, ⊎_elim}
+use Rattle.std.proofs.Common.{◌≡◌, ℕ, zero, suc, Bool, cond, ◌⊎◌, List, [], ◌∷◌, Decides, sym, refl, ◌∙◌, subst, inl, inr, ⊎_elim, None, Some}
 use Rattle.std.proofs.lemmas.Bool.{cases_Bool, cond-true, cond-false, cond_both}
 use Rattle.facts.specs.declared.sets.FactSet.{FactSet}
 use Rattle.facts.proofs.Members.{union, without}
@@ -9,8 +9,7 @@ use Rattle.tasks.specs.declared.moves.Move.{Move}
 use Rattle.tasks.proofs.Bearing.{regresses_same}
 use Rattle.costs.specs.Choices.{Smaller, smaller_of}
 use Rattle.costs.specs.Estimates.{not_above}
-use Rattle.costs.specs.declared.estimate.Estimate.{Estimate}
-use Rattle.costs.specs.declared.estimate.Estimate.TheVariants.{Value, Never}
+use Rattle.costs.specs.Estimates.{Estimate}
 use Rattle.costs.specs.EstimatesLemmas.{estimates_lawful}
 use Rattle.costs.proofs.Orders as orders
 use Rattle.bounds.specs.Sound.{NotAbove}
@@ -55,7 +54,7 @@ module _ {V K : Type 0} {n : Net V K} {size : ℕ} (L : Layout n size) where
   -- the least that the moves allow the place
   unfoldable pub allowed : (K → Estimate V) → K → List Move → Estimate V
   unfolding regression within_or_not overlaps_or_not decided union without
-  allowed val k [] = Never
+  allowed val k [] = None
   allowed val k (m ∷ moves) = with_move val k m (regression m (L.set_at k)) (allowed val k moves)
 
   module _ (val : K → Estimate V) (k : K) where
@@ -87,13 +86,13 @@ module _ {V K : Type 0} {n : Net V K} {size : ℕ} (L : Layout n size) where
       pub regresses : Regresses move (L.set_at k) to
       pub is : e ≡ via n move val to
 
-    by_later : (x : Move) (moves : List Move) (e f : Estimate V) → e ≡ f → (f ≡ Never) ⊎ By moves f → (e ≡ Never) ⊎ By (x ∷ moves) e
+    by_later : (x : Move) (moves : List Move) (e f : Estimate V) → e ≡ f → (f ≡ None) ⊎ By moves f → (e ≡ None) ⊎ By (x ∷ moves) e
     by_later x moves e f is (inl never) = inl (is ∙ never)
     by_later x moves e f is (inr b) =
         inr (record { number = suc b.number; move = b.move; at = there b.at; to = b.to; regresses = b.regresses; is = is ∙ b.is })
 
     with_by : (x : Move) (moves : List Move) (r : Tried x (L.set_at k)) (rest : Estimate V)
-        → (rest ≡ Never) ⊎ By moves rest → (with_move val k x r rest ≡ Never) ⊎ By (x ∷ moves) (with_move val k x r rest)
+        → (rest ≡ None) ⊎ By moves rest → (with_move val k x r rest ≡ None) ⊎ By (x ∷ moves) (with_move val k x r rest)
     with_by x moves (inr none) rest b = by_later x moves rest rest refl b
     with_by x moves (inl g) rest b =
         ⊎_elim
@@ -101,19 +100,19 @@ module _ {V K : Type 0} {n : Net V K} {size : ℕ} (L : Layout n size) where
         (λ e. by_later x moves (lesser (via n x val g.0) rest) rest e b)
         (is_lesser (via n x val g.0) rest).chosen
 
-    allowed_by : (moves : List Move) → (allowed val k moves ≡ Never) ⊎ By moves (allowed val k moves)
+    allowed_by : (moves : List Move) → (allowed val k moves ≡ None) ⊎ By moves (allowed val k moves)
     unfolding allowed
     allowed_by [] = inl refl
     allowed_by (x ∷ moves) = with_by x moves (regression x (L.set_at k)) (allowed val k moves) (allowed_by moves)
 
   -- nil in the start, never elsewhere
   unfoldable pub first : K → Estimate V
-  first k = cond (L.begins k) (Value n.tally.nil) Never
+  first k = cond (L.begins k) (Some n.tally.nil) None
 
   -- each place of the table comes down to what the moves allow it
   unfoldable pub next : (K → Estimate V) → K → Estimate V
   unfolding allowed
-  next val k = lesser (val k) (cond (L.present k) (allowed val k n.setting.moves) Never)
+  next val k = lesser (val k) (cond (L.present k) (allowed val k n.setting.moves) None)
 
   unfoldable pub round : ℕ → K → Estimate V
   unfolding first next
@@ -123,15 +122,15 @@ module _ {V K : Type 0} {n : Net V K} {size : ℕ} (L : Layout n size) where
   first_sure : Sure n first
   unfolding first
   first_sure = record {
-    above = λ h u k. cond_both (L.begins k) (Value n.tally.nil) Never (λ x. Le (h k) x) (λ e. u.begun k ((L.begins_is k).0 e)) (λ e. order.top L.laws (h k));
-    backed = λ k. ⊎_elim (λ e. begun ((L.begins_is k).0 e)) (λ e. unreached (cond-false (L.begins k) (Value n.tally.nil) Never e)) (cases_Bool (L.begins k));
-    begun = λ k s. cond-true (L.begins k) (Value n.tally.nil) Never ((L.begins_is k).1 s);
-    absent = λ k out. cond_both (L.begins k) (Value n.tally.nil) Never (λ x. x ≡ Never) (λ e. absurd (out ((L.begins_is k).0 e).0)) (λ e. refl);
+    above = λ h u k. cond_both (L.begins k) (Some n.tally.nil) None (λ x. Le (h k) x) (λ e. u.begun k ((L.begins_is k).0 e)) (λ e. order.top L.laws (h k));
+    backed = λ k. ⊎_elim (λ e. begun ((L.begins_is k).0 e)) (λ e. unreached (cond-false (L.begins k) (Some n.tally.nil) None e)) (cases_Bool (L.begins k));
+    begun = λ k s. cond-true (L.begins k) (Some n.tally.nil) None ((L.begins_is k).1 s);
+    absent = λ k out. cond_both (L.begins k) (Some n.tally.nil) None (λ x. x ≡ None) (λ e. absurd (out ((L.begins_is k).0 e).0)) (λ e. refl);
   }
 
   module _ (val : K → Estimate V) (sure : Sure n val) where
     abbrev rest : K → Estimate V
-    rest k = cond (L.present k) (allowed val k n.setting.moves) Never
+    rest k = cond (L.present k) (allowed val k n.setting.moves) None
 
     falls : (k : K) → Le (next val k) (val k)
     unfolding next
@@ -150,7 +149,7 @@ module _ {V K : Type 0} {n : Net V K} {size : ℕ} (L : Layout n size) where
 
     above_rest : (h : K → Estimate V) → Under n h → (k : K) → Le (h k) (rest k)
     above_rest h u k =
-        cond_both (L.present k) (allowed val k n.setting.moves) Never (λ x. Le (h k) x)
+        cond_both (L.present k) (allowed val k n.setting.moves) None (λ x. Le (h k) x)
         (λ e. ⊎_elim (λ never. subst (λ x. Le (h k) x) (sym never) (order.top L.laws (h k)))
         (λ b. subst (λ x. Le (h k) x) (sym b.is) (order.transitive L.laws (h k) (via n b.move h b.to) (via n b.move val b.to)
         (u.steps b.number b.move k b.to (step_at k ((L.present_is k).0 e) b)) (via_falls h (sure.above h u) b.move b.to)))
@@ -167,23 +166,23 @@ module _ {V K : Type 0} {n : Net V K} {size : ℕ} (L : Layout n size) where
     backed_rest : (k : K) → next val k ≡ rest k → Backed n (next val) k
     backed_rest k e =
         ⊎_elim
-        (λ p. let is = e ∙ cond-true (L.present k) (allowed val k n.setting.moves) Never p in
+        (λ p. let is = e ∙ cond-true (L.present k) (allowed val k n.setting.moves) None p in
         ⊎_elim (λ never. unreached (is ∙ never))
         (λ b. stepped b.number b.move b.to (step_at k ((L.present_is k).0 p) b)
         (subst (λ x. Le (via n b.move (next val) b.to) x) (sym (is ∙ b.is)) (via_falls (next val) falls b.move b.to)))
         (allowed_by val k n.setting.moves))
-        (λ p. unreached (e ∙ cond-false (L.present k) (allowed val k n.setting.moves) Never p))
+        (λ p. unreached (e ∙ cond-false (L.present k) (allowed val k n.setting.moves) None p))
         (cases_Bool (L.present k))
 
     next_sure : Sure n (next val)
     next_sure = record {
       above = λ h u k. ⊎_elim (λ e. subst (λ x. Le (h k) x) (sym e) (sure.above h u k)) (λ e. subst (λ x. Le (h k) x) (sym e) (above_rest h u k)) (chosen k);
       backed = λ k. ⊎_elim (λ e. still k e (sure.backed k)) (backed_rest k) (chosen k);
-      begun = λ k s. order.antisymmetric L.laws (next val k) (Value n.tally.nil) (subst (λ x. Le (next val k) x) (sure.begun k s) (falls k))
+      begun = λ k s. order.antisymmetric L.laws (next val k) (Some n.tally.nil) (subst (λ x. Le (next val k) x) (sure.begun k s) (falls k))
           (order.least L.laws (next val k));
-      absent = λ k out. order.antisymmetric L.laws (next val k) Never (order.top L.laws (next val k))
+      absent = λ k out. order.antisymmetric L.laws (next val k) None (order.top L.laws (next val k))
           (⊎_elim (λ e. order.same L.laws (sym (e ∙ sure.absent k out)))
-          (λ e. order.same L.laws (sym (e ∙ cond_both (L.present k) (allowed val k n.setting.moves) Never (λ x. x ≡ Never) (λ p. absurd (out ((L.present_is k).0 p))) (λ p. refl))))
+          (λ e. order.same L.laws (sym (e ∙ cond_both (L.present k) (allowed val k n.setting.moves) None (λ x. x ≡ None) (λ p. absurd (out ((L.present_is k).0 p))) (λ p. refl))))
           (chosen k));
     }
 

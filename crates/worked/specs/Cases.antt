@@ -1,24 +1,24 @@
 -- The cases worked through, all by the rules and equations that the contracts cite.
-use Rattle.std.specs.Prelude.{◌≡◌, ℕ, List, [], ◌∷◌, map}
+use Rattle.std.specs.Prelude.{◌≡◌, ℕ, List, [], ◌∷◌, map, None, Some}
 use Rattle.facts.specs.declared.sets.FactSet.{FactSet}
 use Rattle.tasks.specs.Tasks.{goal_of}
 use Rattle.tasks.specs.declared.task.Task.{Task}
 use Rattle.costs.specs.Minutes.{held}
 use Rattle.costs.specs.Worst.{single}
-use Rattle.costs.specs.declared.estimate.Estimate.{Estimate}
-use Rattle.costs.specs.declared.estimate.Estimate.TheVariants.{Value, Never}
+use Rattle.costs.specs.Estimates.{Estimate}
 use Rattle.costs.specs.declared.tally.Tally.{Ghosts}
 use Rattle.theory.specs.Problem.{Problem, Lent}
 use Rattle.theory.specs.Queue.{Call, run, read_out, ran, read, refused, State, kept, holding, Makes, Event, asked, Queue}
 use Rattle.theory.specs.Records.{goal_record}
 use Rattle.theory.specs.Refusals.{number_of}
+use Rattle.theory.specs.Tasks.{set_of, small, goalless, startless}
 use Rattle.theory.specs.declared.refusal.Refusal.{Refusal}
 use Rattle.theory.specs.declared.refusal.Refusal.TheVariants.{TableSize, Overdrawn, GrantTooLarge, NotPlanned, ListTooShort}
 use Rattle.theory.specs.declared.reply.End.TheVariants.{Going}
 use Rattle.theory.specs.declared.reply.Kind.TheVariants.{Pending, Plan, NoPlan, Full}
 use Rattle.worked.specs.Costs.{minutes, worst}
 use Rattle.worked.specs.Lending.{blind, every_group, only_group, Table, reading, summed, posing}
-use Rattle.worked.specs.Tasks.{set_of, small, goalless, startless, circle}
+use Rattle.worked.specs.Tasks.{circle}
 
 -- a run with this bound and grant; what it tells: a kind, the openings, a value and a length
 abbrev pub pends : {V : Type 0} → Lent V → ℕ → ℕ → V → Event V
@@ -83,10 +83,10 @@ pub record WorkedCases : Type 0 where
   pub no_way_by_pairs : Each (Table minutes startless every_group 2)
       (λ pairs. Goes (posing minutes startless (reading pairs) 4) (gives_up (reading pairs) 0 0 (held 0) ∷ []))
   -- the goal by single facts, by their sum with each group in one part, and by pairs
-  pub goal_by_singles : Gives minutes small every_group 1 (goal_of small) (Value (held 15))
+  pub goal_by_singles : Gives minutes small every_group 1 (goal_of small) (Some (held 15))
   pub goal_by_sum : Each (Table minutes small (only_group 0) 1 × Table minutes small (only_group 1) 1)
-      (λ w. (summed minutes (reading w.0) (reading w.1)).estimate (goal_of small) ≡ Value (held 19))
-  pub goal_by_pairs : Gives minutes small every_group 2 (goal_of small) (Value (held 19))
+      (λ w. (summed minutes (reading w.0) (reading w.1)).estimate (goal_of small) ≡ Some (held 19))
+  pub goal_by_pairs : Gives minutes small every_group 2 (goal_of small) (Some (held 19))
   -- a sum with group 1 in both parts: its shares are above the charges in minutes, and not where only the worst price counts
   pub both_in_minutes : Each (Table minutes small every_group 1 × Table minutes small (only_group 1) 1)
       (λ w. Made (posing minutes small (summed minutes (reading w.0) (reading w.1)) 4) (kept Overdrawn))
@@ -94,5 +94,5 @@ pub record WorkedCases : Type 0 where
   pub both_by_worst : Each (Table worst small every_group 1 × Table worst small (only_group 1) 1)
       (λ w. let P = posing worst small (summed worst (reading w.0) (reading w.1)) 4 in Made P (holding (goal_record P (single 15) ∷ []) Going))
   -- facts that come only of each other never come
-  pub never_first : Gives minutes circle every_group 1 (set_of 1) Never
-  pub never_second : Gives minutes circle every_group 1 (set_of 2) Never
+  pub never_first : Gives minutes circle every_group 1 (set_of 1) None
+  pub never_second : Gives minutes circle every_group 1 (set_of 2) None

@@ -1,10 +1,9 @@
 -- The bounds that are lent to the searches: one that knows nothing, those that read tables, and sums.
-use Rattle.std.specs.Prelude.{ℕ, ◌^◌, true, ◌&&◌}
+use Rattle.std.specs.Prelude.{ℕ, ◌^◌, true, ◌&&◌, Some}
 use Rattle.facts.specs.declared.sets.FactSet.{FactSet}
 use Rattle.tasks.specs.Tasks.{moves_of}
 use Rattle.tasks.specs.declared.task.Task.{Task}
-use Rattle.costs.specs.declared.estimate.Estimate.{Estimate}
-use Rattle.costs.specs.declared.estimate.Estimate.TheVariants.{Value}
+use Rattle.costs.specs.Estimates.{Estimate}
 use Rattle.costs.specs.declared.tally.Tally.{Ghosts}
 use Rattle.bounds.specs.Piles.{sum_estimate, sum_share}
 use Rattle.tables.specs.Equation.{setting_of, Greatest}
@@ -13,7 +12,7 @@ use Rattle.theory.specs.Problem.{Problem, Lent}
 
 -- it fits every task; all its estimates and shares are nil
 abbrev pub blind : {V : Type 0} → Ghosts V → Lent V
-blind tally = record { fits = true; estimate = λ s. Value tally.nil; share = λ k. tally.nil }
+blind tally = record { fits = true; estimate = λ s. Some tally.nil; share = λ k. tally.nil }
 
 -- which groups a table counts: all eight, or one
 abbrev pub every_group : ℕ

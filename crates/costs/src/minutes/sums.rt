@@ -9,15 +9,6 @@ ghost use Rattle.costs.specs.Totals.{same};
 use crate::minutes::Minutes;
 use crate::tally::Tally;
 
-impl Minutes {
-    // The minutes with this total, which are equal to any others with it.
-    fn of(total: u32) -> Minutes
-        ensures { (m : Minutes) → m.total ≡ total → result ≡ m }
-    {
-        Minutes { total }
-    }
-}
-
 impl Tally for Minutes {
     ghost at_most = { no_longer };
 
@@ -39,7 +30,7 @@ impl Tally for Minutes {
     } };
 
     fn nil() -> Self {
-        Minutes::of(0)
+        Minutes { total: 0 }
     }
 
     fn at_most(self, other: Self) -> bool {
@@ -47,10 +38,14 @@ impl Tally for Minutes {
     }
 
     fn join(self, other: Self) -> Self {
-        Minutes::of(self.total.saturating_add(other.total))
+        Minutes {
+            total: self.total.saturating_add(other.total),
+        }
     }
 
     fn charge(price: u16, _group: u8) -> Self {
-        Minutes::of(u32::from(price))
+        Minutes {
+            total: u32::from(price),
+        }
     }
 }

@@ -8,13 +8,20 @@ use super::{Task, get};
 use crate::moves::Move;
 use facts::FactSet;
 
-// What comes of carrying out a list.
-#[derive(Clone, Copy)]
-pub enum Outcome {
-    // all moves are done: the facts that stand then, and whether every goal fact is among them
-    Done { facts: FactSet, goal: bool },
+// Where a list leads when all its moves are done.
+#[derive(Clone, Copy, PartialEq, Eq)]
+pub struct Arrival {
+    // the facts that stand then
+    pub facts: FactSet,
+    // whether every goal fact is among them
+    pub goal: bool,
+}
+
+// A list that cannot be carried out to its end.
+#[derive(Clone, Copy, PartialEq, Eq)]
+pub struct Stuck {
     // the first place in the list whose move cannot be carried out, or whose number is no move
-    Stuck { at: usize },
+    pub at: usize,
 }
 
 impl Task<'_> {
@@ -26,16 +33,14 @@ impl Task<'_> {
     }
 
     // Carries out the moves of these numbers in order, from the start.
-    pub fn carry(&self, list: &[u16]) -> Outcome
+    pub fn carry(&self, list: &[u16]) -> Result<Arrival, Stuck>
         ensures { ComesTo self.now list.now result }
     {
-        match carry_list(self.draft.moves, self.draft.start, list) {
-            Ok(facts) => Outcome::Done {
-                facts,
-                goal: self.draft.goal.is_within(facts),
-            },
-            Err(at) => Outcome::Stuck { at },
-        }
+        let facts = carry_list(self.draft.moves, self.draft.start, list)?;
+        Ok(Arrival {
+            facts,
+            goal: self.draft.goal.is_within(facts),
+        })
     }
 }
 
@@ -46,15 +51,15 @@ fn carry_one(moves: &[Move], number: u16, facts: FactSet) -> Option<FactSet>
 }
 
 // The facts that stand at the end, or the place in the list where it gets stuck.
-fn carry_list(moves: &[Move], start: FactSet, list: &[u16]) -> Result<FactSet, usize>
-    ensures { MatchResult result (Carried moves.now start list.now) (StuckAt moves.now start list.now) }
+fn carry_list(moves: &[Move], start: FactSet, list: &[u16]) -> Result<FactSet, Stuck>
+    ensures { MatchResult result (Carried moves.now start list.now) (λ e. StuckAt moves.now start list.now e.at) }
 {
     let mut facts = start;
     for (at, number) in list.iter().enumerate() {
-        match carry_one(moves, *number, facts) {
-            Some(next) => facts = next,
-            None => return Err(at),
-        }
+        let Some(next) = carry_one(moves, *number, facts) else {
+            return Err(Stuck { at });
+        };
+        facts = next;
     }
     Ok(facts)
 }

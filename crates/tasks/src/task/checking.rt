@@ -1,7 +1,7 @@
 // The check: it turns a draft into a task, or tells the first fault.
 ghost use Rattle.std.specs.Prelude.{◌≡◌, ◌≤◌, length, Decides, MatchResult};
 ghost use Rattle.tasks.specs.Faults.{HeadingFault, MoveFault, Faulty, Faultless, FirstPlace, FirstFault};
-ghost use Rattle.tasks.specs.Tasks.{Checked, draft_of};
+ghost use Rattle.tasks.specs.Tasks.{draft_of};
 
 use crate::draft::Draft;
 use crate::moves::Move;
@@ -10,7 +10,7 @@ use crate::task::Task;
 
 // The draft as a task, or its first fault.
 pub fn check(draft: Draft<'_>) -> Result<Task<'_>, Fault>
-    ensures { MatchResult result (λ t. Checked t × (draft_of t ≡ draft.entry)) (FirstFault draft.entry) }
+    ensures { MatchResult result (λ t. draft_of t ≡ draft.entry) (FirstFault draft.entry) }
 {
     seek_all(&draft)?;
     Ok(Task { draft })
@@ -43,6 +43,7 @@ fn seek(draft: &Draft<'_>, refusal: Refusal) -> Result<(), Fault>
     Ok(())
 }
 
+// The tests of the draft itself, a line for each refusal as in the definition of its faults. Closures handed to `seek` would say the same in two places.
 fn heading_fault(draft: &Draft<'_>, refusal: Refusal) -> bool
     ensures { Decides result (HeadingFault draft.now refusal) }
 {

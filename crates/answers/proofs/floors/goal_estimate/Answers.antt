@@ -1,13 +1,10 @@
-use Rattle.std.proofs.Common.{◌≡◌, ℕ, ◌≤◌, List, length, replicate, Ok, Err, Result, sym, ap, ◌∙◌, subst, inl, inr, ⊎_elim, arith}
+use Rattle.std.proofs.Common.{◌≡◌, ℕ, List, length, replicate, Ok, Err, Result, sym, ap, ◌∙◌, subst, arith, None}
 use lib.ListN.{length-replicate}
 use Rattle.std.proofs.lemmas.Nat.{mul-le}
-use Rattle.std.proofs.lemmas.Bool.{cases_lt}
-use Rattle.tasks.specs.Tasks.{Checked, facts_of, goal_of}
-use Rattle.tasks.specs.declared.refusal.Place.TheVariants.{Heading}
-use Rattle.tasks.specs.declared.refusal.Refusal.TheVariants.{OutOfRange}
+use Rattle.tasks.specs.Tasks.{facts_of, goal_of}
 use Rattle.tasks.specs.declared.task.Task.{Task}
-use Rattle.costs.specs.declared.estimate.Estimate.{Estimate}
-use Rattle.costs.specs.declared.estimate.Estimate.TheVariants.{Never}
+use Rattle.tasks.proofs.Checks.{few_facts}
+use Rattle.costs.specs.Estimates.{Estimate}
 use Rattle.costs.specs.declared.minutes.Minutes.{Minutes}
 use Rattle.tables.specs.Equation.{Setting}
 use Rattle.tables.specs.Reading.{place_of_pair, estimate_by_pairs}
@@ -16,25 +13,22 @@ use Rattle.tables.specs.declared.refusal.TableTooShort.{TableTooShort}
 use Rattle.answers.specs.Floors.{minutes, IsFloor}
 use Rattle.answers.proofs.floors.goal_estimate.Goals as goal
 
-few_facts : (t : Task) → Checked t → facts_of t ≤ 64
-few_facts t checked = ⊎_elim (λ l. absurd (checked OutOfRange Heading (inr (inl l)))) (λ l. l) (cases_lt 64 (facts_of t))
-
 -- a table of 4,096 places is worked out, and its estimate of the goal is the floor
-floor : (t : Task) (groups : ℕ) → Checked t → (old new : List (Estimate Minutes)) → length old ≡ 4096 → (r : Result ℕ TableTooShort) → WorksOutPairs minutes t groups old new r
+floor : (t : Task) (groups : ℕ) → (old new : List (Estimate Minutes)) → length old ≡ 4096 → (r : Result ℕ TableTooShort) → WorksOutPairs minutes t groups old new r
     → IsFloor t groups (estimate_by_pairs minutes (place_of_pair (facts_of t) new) (goal_of t))
-floor t groups checked old new places (Ok n) h =
-    let table = h.2 checked in record { est = table.est; greatest = table.greatest; is = table.reads (goal_of t) }
-floor t groups checked old new places (Err short) h =
-    let few = few_facts t checked in absurd (omega (arith, places, h.0, mul-le (facts_of t) (facts_of t) 64 64 few few))
+floor t groups old new places (Ok n) h =
+    let table = h.2 in record { est = table.est; greatest = table.greatest; is = table.reads (goal_of t) }
+floor t groups old new places (Err short) h =
+    let few = few_facts t in absurd (omega (arith, places, h.0, mul-le (facts_of t) (facts_of t) 64 64 few few))
 
 pub returns : goal.returns
-returns c = λ checked.
+returns c =
     let t = c.args.task.now in
-    let blank : List (Estimate Minutes) = replicate 4096 Never in
+    let blank : List (Estimate Minutes) = replicate 4096 None in
     let table = c.work_out_pair.new.table in
     let is : c.estimate.result ≡ estimate_by_pairs minutes (place_of_pair (facts_of t) table) (goal_of t) =
     c.estimate.ensures
     ∙ ap (λ f. estimate_by_pairs minutes (place_of_pair f c.of.result.table.now) c.goal.result) (ap (λ (s : Setting). s.facts) c.of.ensures.0)
     ∙ ap (λ l. estimate_by_pairs minutes (place_of_pair (facts_of t) l) c.goal.result) c.of.ensures.1
     ∙ ap (λ s. estimate_by_pairs minutes (place_of_pair (facts_of t) table) s) c.goal.ensures in
-    subst (IsFloor t c.args.groups) (sym is) (floor t c.args.groups checked blank table (length-replicate {A = Estimate Minutes} 4096 Never) c.work_out_pair.result c.work_out_pair.ensures)
+    subst (IsFloor t c.args.groups) (sym is) (floor t c.args.groups blank table (length-replicate {A = Estimate Minutes} 4096 None) c.work_out_pair.result c.work_out_pair.ensures)

@@ -11,7 +11,7 @@ returns-in-Err c =
 
 pub returns-in-Ok : goal.returns-in-Ok
 returns-in-Ok c =
-    let passed = c.in-Ok.ensures in
+    let is = c.in-Ok.ensures in
     IfOk-weaker c.accepted_text.result _ _
-    (λ text h. accepted (subst Faultless passed.1 passed.0) passed.1 (c.floor_of.ensures passed.0) h)
+    (λ text h. accepted (subst Faultless is c.in-Ok.task.checked) is c.floor_of.ensures h)
     c.accepted_text.ensures

@@ -1,7 +1,6 @@
 use Rattle.std.proofs.Common.{◌≡◌, ◌<◌, min, length, sym, refl, ◌∙◌, subst, arith, ltb-false}
 use Rattle.std.proofs.lemmas.List.{set-get_or}
 use Rattle.tasks.specs.Places.{At}
-use Rattle.tasks.specs.Tasks.{Checked}
 use Rattle.tasks.proofs.Places.{at_get}
 use Rattle.records.specs.Openings.{lent_of}
 use Rattle.queues.proofs.Booking.{stays_put, stays_on, none_noted, one_noted, nothing_booked, one_booked, all_served}
@@ -12,7 +11,7 @@ loop-i-init g c = record {
   few = omega arith;
   stays = stays_put _;
   noted = none_noted _;
-  book = λ checked. nothing_booked g.V.Tally (λ t. lent_of g.B.Bound t c.args.bound.now) c.args.calls.now c.args.list.now c.args.search.now.held c.args.replies.now;
+  book = nothing_booked g.V.Tally (λ t. lent_of g.B.Bound t c.args.bound.now) c.args.calls.now c.args.list.now c.args.search.now c.args.replies.now;
   lent = refl;
 }
 
@@ -28,9 +27,9 @@ loop-i-preserved g c =
       few = omega (arith, found.0);
       stays = stays_on _ _ _ so.stays new.stays;
       noted = one_noted c.answer.result refl less so.noted;
-      book = λ checked.
-          one_booked g.V.Tally (λ t. lent_of g.B.Bound t c.args.bound.now) calls c.args.list.now c.args.search.now.held refl less so.stays
-          c.loop-i.auto.list here (so.book checked) (new.reply (subst Checked (sym so.stays.task) checked));
+      book =
+          one_booked g.V.Tally (λ t. lent_of g.B.Bound t c.args.bound.now) calls c.args.list.now c.args.search.now refl less so.stays
+          c.loop-i.auto.list here so.book new.reply;
       lent = c.answer.ensures.lent ∙ so.lent;
     }
 
@@ -39,7 +38,7 @@ returns-in_default g c =
     let so = c.loop-i.invariant in
     let past = ltb-false _ _ (sym c.in_default.ensures.lookup.0) in
     record {
-      served = all_served g.V.Tally (λ t. lent_of g.B.Bound t c.args.bound.now) c.args.list.now c.args.search.now.held
+      served = all_served g.V.Tally (λ t. lent_of g.B.Bound t c.args.bound.now) c.args.list.now c.args.search.now
           (omega (arith, past, so.few, c.loop-i-test.true)) (set-get_or c.loop-i.replies c.loop-i.i c.index-replies-i.result) so.stays so.noted so.book;
       lent = so.lent;
     }
@@ -48,7 +47,7 @@ pub returns : goal.returns
 returns g c =
     let so = c.loop-i.invariant in
     record {
-      served = all_served g.V.Tally (λ t. lent_of g.B.Bound t c.args.bound.now) c.args.list.now c.args.search.now.held
+      served = all_served g.V.Tally (λ t. lent_of g.B.Bound t c.args.bound.now) c.args.list.now c.args.search.now
           (omega (arith, so.few, c.loop-i-test.false, c.loop-i.auto.i-end)) refl so.stays so.noted so.book;
       lent = so.lent;
     }

@@ -8,23 +8,23 @@ use Rattle.runs.proofs.Carrying.{is_not, nothing_yet, one_opened, none_left, pla
 use Rattle.runs.proofs.running.go_on.Goals as goal
 
 pub loop-first-init : goal.loop-first-init
-loop-first-init g c = record { grown = grown_none _; granted = omega arith; carried = λ checked. nothing_yet _ _ _ }
+loop-first-init g c = record { grown = grown_none _; granted = omega arith; carried = nothing_yet _ _ _ }
 
 pub returns-then-arrives-clause-inside : goal.returns-then-arrives-clause-inside
 returns-then-arrives-clause-inside g c = rw c.arrived.ensures (at_less c.in-Some.ensures.at)
 
 pub returns-then-arrives-clause-ran : goal.returns-then-arrives-clause-ran
-returns-then-arrives-clause-ran g c = rw c.arrived.ensures (λ checked known.
-    let both = plan_found _ _ _ (c.loop-first.invariant.carried checked) c.in-Some.ensures (c.if-arrives.ensures.0 refl) c.trail_length.ensures known in
+returns-then-arrives-clause-ran g c = rw c.arrived.ensures (λ known.
+    let both = plan_found _ _ _ c.loop-first.invariant.carried c.in-Some.ensures (c.if-arrives.ensures.0 refl) c.trail_length.ensures known in
     record { runs = both.0; sane = both.1 })
 
 pub returns-then-is_used_up-clause-ran : goal.returns-then-is_used_up-clause-ran
 returns-then-is_used_up-clause-ran g c =
     let so = c.loop-first.invariant in
-    rw c.paused.ensures (λ checked known. record {
-      runs = grant_used _ _ _ (so.carried checked) c.in-Some.ensures (is_not c.if-arrives.ensures)
+    rw c.paused.ensures (λ known. record {
+      runs = grant_used _ _ _ so.carried c.in-Some.ensures (is_not c.if-arrives.ensures)
           (omega (arith, so.granted, leb-true _ _ (sym c.if-is_used_up.ensures)));
-      sane = (so.carried checked).threads known;
+      sane = so.carried.threads known;
     })
 
 pub returns-in-Err-clause-grown : goal.returns-in-Err-clause-grown
@@ -35,10 +35,10 @@ returns-in-Err-clause-inside g c =
     rw c.filled.ensures (omega (arith, at_less c.in-Some.ensures.at, c.in-Err.ensures.grown.more))
 
 pub returns-in-Err-clause-ran : goal.returns-in-Err-clause-ran
-returns-in-Err-clause-ran g c = rw c.filled.ensures (λ checked known. record {
-    runs = no_room _ _ _ (c.loop-first.invariant.carried checked) c.in-Some.ensures (is_not c.if-arrives.ensures)
+returns-in-Err-clause-ran g c = rw c.filled.ensures (λ known. record {
+    runs = no_room _ _ _ c.loop-first.invariant.carried c.in-Some.ensures (is_not c.if-arrives.ensures)
         (leb-false _ _ (sym c.if-is_used_up.ensures)) (subst (λ n. Overflows (problem_of g.V.Tally g.B.Bound c.args.task.now c.args.bound.now n) (recs_of c.loop-first.records) c.in-Some.first.number c.in-Some.first.row
-        (recs_of c.open.new.records)) c.loop-first.invariant.grown.room (c.in-Err.ensures.opened checked (at_less c.in-Some.ensures.at)));
+        (recs_of c.open.new.records)) c.loop-first.invariant.grown.room (c.in-Err.ensures.opened (at_less c.in-Some.ensures.at)));
     sane = ∣ tt ∣₁;
   })
 
@@ -50,10 +50,10 @@ loop-first-preserved g c =
     record {
       grown = grown_on _ _ _ so.grown done.grown;
       granted = omega (arith, less);
-      carried = λ checked. one_opened _ _ _ (so.carried checked) (record { lawful = g.met.V.Tally.lawful }) c.in-Some.ensures (is_not c.if-arrives.ensures)
+      carried = one_opened _ _ _ so.carried (record { lawful = g.met.V.Tally.lawful }) c.in-Some.ensures (is_not c.if-arrives.ensures)
           (subst (λ n. Opens (problem_of g.V.Tally g.B.Bound c.args.task.now c.args.bound.now n) (recs_of c.loop-first.records) c.in-Some.first.number c.in-Some.first.row
-          (recs_of c.open.new.records)) so.grown.room (done.opened checked (at_less c.in-Some.ensures.at))) less;
+          (recs_of c.open.new.records)) so.grown.room (done.opened (at_less c.in-Some.ensures.at))) less;
     }
 
 pub returns-clause-ran : goal.returns-clause-ran
-returns-clause-ran g c = rw c.ran_out.ensures (λ checked known. record { runs = none_left _ _ _ (c.loop-first.invariant.carried checked) c.in_default.ensures; sane = ∣ tt ∣₁ })
+returns-clause-ran g c = rw c.ran_out.ensures (λ known. record { runs = none_left _ _ _ c.loop-first.invariant.carried c.in_default.ensures; sane = ∣ tt ∣₁ })

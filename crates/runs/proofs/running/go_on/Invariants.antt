@@ -1,5 +1,4 @@
 use Rattle.std.proofs.Common.{◌-◌, ◌≤◌}
-use Rattle.tasks.specs.Tasks.{Checked}
 use Rattle.records.specs.Openings.{problem_of}
 use Rattle.records.specs.Tables.{recs_of, room_of, Grown}
 use Rattle.runs.proofs.Carrying.{Carried}
@@ -9,7 +8,7 @@ abbrev pub invariant-loop-first : goal.invariant-loop-first
 invariant-loop-first g l = record {
   grown : Grown l.initial.records l.records;
   granted : l.opened ≤ l.grant;
-  carried : Checked l.task → Carried (problem_of g.V.Tally g.B.Bound l.task l.bound (room_of l.initial.records)) (recs_of l.initial.records) l.grant
+  carried : Carried (problem_of g.V.Tally g.B.Bound l.task l.bound (room_of l.initial.records)) (recs_of l.initial.records) l.grant
       (recs_of l.records) l.opened;
 }
 

@@ -10,7 +10,7 @@ unreachable-requires c =
     let b = setting_in c.of-bound.result.origin in
     let pairs = c.of-bound.result.table.now in
     let u = useful t 255 c.args.pairs.now c.requires.worked b pairs c.of-bound.ensures.0 c.of-bound.ensures.1 in
-    let asked = asks t (seen b pairs t) _ _ c.queue.new.replies c.args.list.now c.queue.new.list c.queue.result.held u c.requires.room refl (c.queue.ensures c.requires.checked) in
+    let asked = asks t (seen b pairs t) _ _ c.queue.new.replies c.args.list.now c.queue.new.list c.queue.result u c.requires.room refl c.queue.ensures in
     always_found asked c.index-told-0.result (λ r e. c.in_default.not-Ok _ e)
 
 pub unreachable-requires-in-Read : goal.unreachable-requires-in-Read
@@ -19,7 +19,7 @@ unreachable-requires-in-Read c =
     let b = setting_in c.of-bound.result.origin in
     let pairs = c.of-bound.result.table.now in
     let u = useful t 255 c.args.pairs.now c.requires.worked b pairs c.of-bound.ensures.0 c.of-bound.ensures.1 in
-    let asked = asks t (seen b pairs t) _ _ c.queue.new.replies c.args.list.now c.queue.new.list c.queue.result.held u c.requires.room refl (c.queue.ensures c.requires.checked) in
+    let asked = asks t (seen b pairs t) _ _ c.queue.new.replies c.args.list.now c.queue.new.list c.queue.result u c.requires.room refl c.queue.ensures in
     always_found asked c.index-told-0.result (λ r e. not_read c.in-Ok.is c.in-Read.is e)
 
 pub returns : goal.returns
@@ -28,5 +28,5 @@ returns c =
     let b = setting_in c.of-bound.result.origin in
     let pairs = c.of-bound.result.table.now in
     let u = useful t 255 c.args.pairs.now c.requires.worked b pairs c.of-bound.ensures.0 c.of-bound.ensures.1 in
-    let asked = asks t (seen b pairs t) _ _ c.queue.new.replies c.args.list.now c.queue.new.list c.queue.result.held u c.requires.room refl (c.queue.ensures c.requires.checked) in
+    let asked = asks t (seen b pairs t) _ _ c.queue.new.replies c.args.list.now c.queue.new.list c.queue.result u c.requires.room refl c.queue.ensures in
     found asked c.index-told-0.result c.in-Ran.reply (c.in-Ok.is ∙ ap Ok c.in-Ran.is)

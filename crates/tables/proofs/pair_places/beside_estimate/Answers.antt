@@ -37,10 +37,10 @@ loop-p-preserved g c =
     let New : Two → Type 0 = Around r (Gone all after) in
     let One : Two → Type 0 = λ k. k ≡ (x, r) in
     let Other : Two → Type 0 = λ k. k ≡ (r, x) in
-    let first = top_join laws {val = val} {P = Old} {Q = One} {R = λ k. Old k ⊎ One k} c.loop-p.invariant.1 (top_one laws {val = val} (x, r) refl (λ l e. e) c.pair_place.ensures) c.higher-top.ensures
+    let first = top_join laws {val = val} {P = Old} {Q = One} {R = λ k. Old k ⊎ One k} c.loop-p.invariant.1 (top_one laws {val = val} (x, r) refl (λ l e. e) c.pair_place.ensures) c.larger-top.ensures.larger
     (λ k h. h) (λ k h. inl h) (λ k h. inr h) in (
       next_within all left after x within next,
-      top_join laws {val = val} {P = λ k. Old k ⊎ One k} {Q = Other} {R = New} first (top_one laws {val = val} (r, x) refl (λ l e. e) c.pair_place-in-loop-p.ensures) c.higher-top-in-loop-p.ensures
+      top_join laws {val = val} {P = λ k. Old k ⊎ One k} {Q = Other} {R = New} first (top_one laws {val = val} (r, x) refl (λ l e. e) c.pair_place-in-loop-p.ensures) c.larger-top-in-loop-p.ensures.larger
           (λ k h. ⊎_elim
           (λ a. ⊎_elim (λ e. inl (inl (inl (a.0, inl e)))) (λ gone. ⊎_elim (λ old. inl (inl (inl (a.0, inr old)))) (λ e. inr (same_two k r x a.0 e)) (more k.1 gone)) a.1)
           (λ a. ⊎_elim (λ old. inl (inl (inr (a.0, old)))) (λ e. inl (inr (same_two k x r e a.0))) (more k.0 a.1)) h)

@@ -20,7 +20,7 @@ loop-p-preserved g c =
     let within = c.loop-p.invariant.0 in
     let next = c.in-Some.ensures.steps in (
       next_within all left after x within next,
-      top_join laws {val = val} c.loop-p.invariant.1 c.row_estimate.ensures c.higher-top.ensures
+      top_join laws {val = val} c.loop-p.invariant.1 c.row_estimate.ensures c.larger-top.ensures.larger
           (λ k h. ⊎_elim (λ gone. inl (gone, h.1)) (λ e. inr (e, h.1)) (gone_more all left after x within next k.0 h.0))
           (λ k h. (gone_still all left after x within next k.0 h.0, h.1))
           (λ k h. (subst (Gone all after) (sym h.0) (gone_now all left after x within next), h.1)),

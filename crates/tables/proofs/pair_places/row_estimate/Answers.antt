@@ -23,7 +23,7 @@ loop-q-preserved g c =
     let next = c.in-Some.ensures.steps in
     let Here : Two → Type 0 = λ k. k ≡ (p, x) in (
       next_within all left after x within next,
-      top_join laws {val = val} {Q = Here} c.loop-q.invariant.1 (top_one laws {val = val} (p, x) refl (λ l e. e) c.pair_place.ensures) c.higher-top.ensures
+      top_join laws {val = val} {Q = Here} c.loop-q.invariant.1 (top_one laws {val = val} (p, x) refl (λ l e. e) c.pair_place.ensures) c.larger-top.ensures.larger
           (λ k h. ⊎_elim (λ gone. inl (h.0, gone)) (λ e. inr (same_two k p x h.0 e)) (gone_more all left after x within next k.1 h.1))
           (λ k h. (h.0, gone_still all left after x within next k.1 h.1))
           (λ k e. (ap (λ y. y.0) e, subst (Gone all after) (sym (ap (λ y. y.1) e)) (gone_now all left after x within next))),

@@ -15,7 +15,7 @@ returns-else-has g c =
     let m = c.args.m.now in
     let r = c.args.r in
     let unmade : has m.makes r ≡ false = sym c.has.ensures ∙ none c.has.result c.has-2.result c.if-has.false in
-    top_join laws c.requires c.beside_estimate.ensures c.higher.ensures
+    top_join laws c.requires c.beside_estimate.ensures c.larger.ensures.larger
     (λ k h. ⊎_elim
     (λ a. inr (inl (a.0, ⊎_elim (λ b. inl b.0) (λ b. inr b) (besides_cases m r k.1 h.1))))
     (λ a. ⊎_elim (λ b. inr (inr (b.0, a))) (λ b. inl (a, b)) (besides_cases m r k.1 h.1))

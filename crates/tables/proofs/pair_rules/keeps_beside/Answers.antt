@@ -1,7 +1,6 @@
-use Rattle.std.proofs.Common.{◌≡◌, ℕ, T, Decides, ap, ◌∙◌, subst}
+use Rattle.std.proofs.Common.{◌≡◌, ℕ, T, Decides, ap, ◌∙◌, subst, Some}
 use Rattle.facts.specs.Sets.{has}
 use Rattle.costs.specs.Estimates.{join_each}
-use Rattle.costs.specs.declared.estimate.Estimate.TheVariants.{Value}
 use Rattle.bounds.specs.Sound.{NotAbove}
 use Rattle.tables.specs.Equation.{offer_of}
 use Rattle.tables.specs.Fitting.{setting_in, besides_estimate}
@@ -23,6 +22,6 @@ returns g c =
     let heads = c.without.result in
     let est_is = top_sole laws c.with_beside.ensures (besides_top laws val m r) in
     let is : c.join-offer.result ≡ offer_of tally b m (besides_estimate tally val m r) =
-    c.join-offer.ensures ∙ ap (λ x. join_each tally.join (Value x) c.with_beside.result) c.counted_charge.ensures ∙ ap (λ x. offer_of tally b m x) est_is in
+    c.join-offer.ensures ∙ ap (λ x. join_each tally.join (Some x) c.with_beside.result) c.counted_charge.ensures ∙ ap (λ x. offer_of tally b m x) est_is in
     let told = subst (λ e. Decides c.column_within.result ((p : ℕ) → T (has heads p) → NotAbove tally (val (p, r)) e)) is c.column_within.ensures in
     decides_like (λ h p made whole. h p (heads_in m heads c.without.ensures p (made, whole))) (λ h p i. let head = heads_from m heads c.without.ensures p i in h p head.0 head.1) told

@@ -1,8 +1,7 @@
-use Rattle.std.proofs.Common.{◌≡◌, ℕ, false, T, Decides, sym, refl, ap, ◌∙◌, subst, arith, below_more}
+use Rattle.std.proofs.Common.{◌≡◌, ℕ, false, T, Decides, sym, refl, ap, ◌∙◌, subst, arith, below_more, Some}
 use Rattle.facts.specs.Sets.{has}
 use Rattle.facts.proofs.Tests.{from_true, not_both, not_true_false}
 use Rattle.costs.specs.Estimates.{join_each}
-use Rattle.costs.specs.declared.estimate.Estimate.TheVariants.{Value}
 use Rattle.bounds.specs.Sound.{NotAbove}
 use Rattle.tables.specs.Equation.{offer_of}
 use Rattle.tables.specs.Fitting.{setting_in, keeps_move}
@@ -47,7 +46,7 @@ returns g c =
     let heads = c.without.result in
     let est_is = top_sole laws c.highest_pair-base.ensures (pairs_top laws val m.needs) in
     let is : c.join.result ≡ offer_of tally b m (estimate_by_pairs tally val m.needs) =
-    c.join.ensures ∙ ap (λ x. join_each tally.join (Value x) c.highest_pair-base.result) c.counted_charge.ensures ∙ ap (λ x. offer_of tally b m x) est_is in
+    c.join.ensures ∙ ap (λ x. join_each tally.join (Some x) c.highest_pair-base.result) c.counted_charge.ensures ∙ ap (λ x. offer_of tally b m x) est_is in
     let told = subst (λ e. Decides c.alone_within.result ((p : ℕ) → T (has heads p) → NotAbove tally (val (p, p)) e)) is c.alone_within.ensures in
     decides_same c.alone_within.result (keeps_move tally b val m)
     (decides_like {Q = MoveTested laws b val m}

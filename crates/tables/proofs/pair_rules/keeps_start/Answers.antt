@@ -1,7 +1,6 @@
-use Rattle.std.proofs.Common.{ℕ, T, sym, refl, ap, ◌∙◌, subst}
+use Rattle.std.proofs.Common.{ℕ, T, sym, refl, ap, ◌∙◌, subst, Some}
 use Rattle.facts.specs.Sets.{has}
 use Rattle.facts.proofs.Tests.{not_true_false}
-use Rattle.costs.specs.declared.estimate.Estimate.TheVariants.{Value}
 use Rattle.bounds.specs.Sound.{NotAbove}
 use Rattle.tables.specs.Reading.{place_of_pair}
 use Rattle.tables.proofs.Decisions.{fails_at, holds_more}
@@ -27,7 +26,7 @@ loop-r-preserved g c =
     let x = c.in-Some.r in
     let val = place_of_pair c.args.facts c.args.table.now in (
       next_within all left after x c.loop-r.invariant.0 c.in-Some.ensures.steps,
-      holds_more {P = λ r. (p : ℕ) → T (has c.args.start p) → NotAbove g.V.Tally (val (p, r)) (Value g.V.Tally.nil)} all left after x c.loop-r.invariant.0 c.in-Some.ensures.steps c.loop-r.invariant.1
+      holds_more {P = λ r. (p : ℕ) → T (has c.args.start p) → NotAbove g.V.Tally (val (p, r)) (Some g.V.Tally.nil)} all left after x c.loop-r.invariant.0 c.in-Some.ensures.steps c.loop-r.invariant.1
           (subst (λ e. (p : ℕ) → T (has c.args.start p) → NotAbove g.V.Tally (val (p, x)) e) c.nil.ensures (c.if-not-column_within.ensures.0 refl)),
     )
 

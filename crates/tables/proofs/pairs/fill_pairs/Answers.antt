@@ -1,9 +1,9 @@
 use Rattle.std.proofs.Common.{refl, arith}
-use Rattle.tables.proofs.Seen.{few_facts}
+use Rattle.tasks.proofs.Checks.{few_facts}
 use Rattle.tables.proofs.pairs.fill_pairs.Goals as goal
 
 pub returns-else-facts-le64 : goal.returns-else-facts-le64
 returns-else-facts-le64 g c = record {
-  worked = λ checked. absurd (omega (arith, c.facts.ensures, c.if-facts-le64.false, few_facts c.args.task.now checked));
+  worked = absurd (omega (arith, c.facts.ensures, c.if-facts-le64.false, few_facts c.args.task.now));
   past = λ k h. refl;
 }

@@ -1,9 +1,8 @@
-use Rattle.std.proofs.Common.{◌≡◌, ℕ, ◌*◌, ◌/◌, ◌%◌, ◌<◌, ◌≤◌, true, false, cond, ◌&&◌, ltb, length, get_or, replicate, Some, sym, refl, ap, ◌∙◌, subst, ⊎_elim, arith, length-set}
+use Rattle.std.proofs.Common.{◌≡◌, ℕ, ◌*◌, ◌/◌, ◌%◌, ◌<◌, ◌≤◌, true, false, cond, ◌&&◌, ltb, length, get_or, replicate, Some, sym, refl, ap, ◌∙◌, subst, ⊎_elim, arith, length-set, None}
 use Rattle.std.proofs.lemmas.Nat.{mul-le, div_below, mod_below}
 use Rattle.std.proofs.lemmas.Bool.{cases_lt}
 use Rattle.facts.specs.Sets.{has}
 use Rattle.tasks.specs.Tasks.{facts_of}
-use Rattle.costs.specs.declared.estimate.Estimate.TheVariants.{Value, Never}
 use Rattle.tables.specs.Equation.{setting_of}
 use Rattle.tables.specs.Reading.{place_of_pair}
 use Rattle.tables.specs.Settling.{pairs, touches_both, Before, Turned}
@@ -26,8 +25,8 @@ loop-chosen-init g c =
     let b = setting_of c.args.task.now c.args.groups in
     let begun = c.begin_pairs.new.table in
     let start = c.start.result in
-    let wrote = subst (λ f. (k : ℕ) → k < f * f → get_or begun k Never ≡ cond (has start (k / f) && has start (k % f)) (Value g.V.Tally.nil) Never) c.facts-facts.ensures c.begin_pairs.ensures.inside in
-    let from_start = subst (λ s. (k : ℕ) → k < b.facts * b.facts → get_or begun k Never ≡ cond (has s (k / b.facts) && has s (k % b.facts)) (Value g.V.Tally.nil) Never) c.start.ensures wrote in (
+    let wrote = subst (λ f. (k : ℕ) → k < f * f → get_or begun k None ≡ cond (has start (k / f) && has start (k % f)) (Some g.V.Tally.nil) None) c.facts-facts.ensures c.begin_pairs.ensures.inside in
+    let from_start = subst (λ s. (k : ℕ) → k < b.facts * b.facts → get_or begun k None ≡ cond (has s (k / b.facts) && has s (k % b.facts)) (Some g.V.Tally.nil) None) c.start.ensures wrote in (
       pairs_first laws b begun from_start c.take_pairs.new.table (replicate 4096 false) (none_done 4096) c.take_pairs.ensures.turn,
       refl,
       λ k h. refl,
@@ -89,7 +88,7 @@ returns g c =
     let is = c.count_of-count.ensures ∙ ap (λ f. f * f) c.facts-facts.ensures in
     let begun = subst (λ f. SamePast (f * f) c.args.table.now c.begin_pairs.new.table) c.facts-facts.ensures c.begin_pairs.ensures.past in
     record {
-      worked = λ checked. pairs_end laws b (known c.args.task.now c.args.groups checked) c.loop-chosen.table c.loop-chosen.done c.loop-chosen.invariant.0
+      worked = pairs_end laws b (known c.args.task.now c.args.groups) c.loop-chosen.table c.loop-chosen.done c.loop-chosen.invariant.0
           (λ k l d. c.in_default.ensures k (omega (arith, is)) d);
       past = λ k h. c.loop-chosen.invariant.2 k h ∙ c.take_pairs.ensures.past k h ∙ begun k h;
     }

@@ -1,4 +1,4 @@
-use Rattle.std.proofs.Common.{◌≡◌, ℕ, ◌*◌, ◌<◌, not, ◌&&◌, T, ltb, length, get_or, Option, sym, refl, ap, ◌∙◌, subst, arith}
+use Rattle.std.proofs.Common.{◌≡◌, ℕ, ◌*◌, ◌<◌, not, ◌&&◌, T, ltb, length, get_or, Option, sym, refl, ap, ◌∙◌, subst, arith, Some}
 use Rattle.std.proofs.lemmas.Bool.{lt-ltb}
 use Rattle.facts.specs.Sets.{has}
 use Rattle.facts.specs.declared.sets.FactSet.{FactSet}
@@ -8,7 +8,6 @@ use Rattle.tasks.specs.declared.moves.Move.{Move}
 use Rattle.tasks.proofs.Checks.{no_move}
 use Rattle.tasks.proofs.Places.{at_get}
 use Rattle.costs.specs.Estimates.{join_each}
-use Rattle.costs.specs.declared.estimate.Estimate.TheVariants.{Value}
 use Rattle.tables.specs.Equation.{setting_of, offer_of}
 use Rattle.tables.specs.Reading.{Two, Top, place_of_pair, estimate_by_pairs}
 use Rattle.tables.specs.Settling.{Lowers, Beside, touches_both, besides}
@@ -47,8 +46,8 @@ returns-then-is_within g c =
     let none = with_first laws b c.args.settled i m at val Taken empty in
     record { turn = record { runs = λ done floor r. all.runs done floor (none.runs done floor r) }; past = λ k h. refl }
 
-pub returns-in-Never : goal.returns-in-Never
-returns-in-Never g c =
+pub returns-in-None : goal.returns-in-None
+returns-in-None g c =
     let tally = g.V.Tally in
     let laws = laws_of tally g.met.V.Tally.lawful in
     let b = setting_of c.args.task.now c.args.groups in
@@ -58,7 +57,7 @@ returns-in-Never g c =
     let old = c.args.table.now in
     let Needs : Two → Type 0 = λ k. T (has m.needs k.0) × T (has m.needs k.1) in
     let est_is = top_sole laws (subst (λ f. Top tally Needs (place_of_pair f old) c.highest_pair-base.result) c.facts-facts.ensures c.highest_pair-base.ensures) (pairs_top laws (place_of_pair b.facts old) m.needs) in
-    record { turn = with_never laws b c.args.settled i m at (place_of_pair b.facts old) (sym est_is ∙ c.in-Never.is); past = λ k h. refl }
+    record { turn = with_never laws b c.args.settled i m at (place_of_pair b.facts old) (sym est_is ∙ c.in-None.is); past = λ k h. refl }
 
 pub loop-r-init : goal.loop-r-init
 loop-r-init g c =
@@ -107,7 +106,7 @@ loop-r-preserved g c =
     (top_like laws (λ k h. (subst T (has_target m r k.0) h.0, subst T (has_target m r k.1) h.1)) (λ k h. (subst T (sym (has_target m r k.0)) h.0, subst T (sym (has_target m r k.1)) h.1))
     (pairs_top laws val (target m r))) in
     let is : offer ≡ offer_of tally b m (estimate_by_pairs tally val (target m r)) =
-    c.join-offer.ensures ∙ ap (λ x. join_each tally.join (Value x) c.with_beside.result) c.counted_charge.ensures ∙ ap (λ x. offer_of tally b m x) est_is in
+    c.join-offer.ensures ∙ ap (λ x. join_each tally.join (Some x) c.with_beside.result) c.counted_charge.ensures ∙ ap (λ x. offer_of tally b m x) est_is in
     let low = subst (λ f. Lowers tally (Beside f heads r) offer (place_of_pair f old) (place_of_pair f new)) same c.lower_pairs.ensures.lowers in
     let own_touched = touched c.args.all others m c.args.settled b.facts c.requires.whole c.concerned-others.ensures r here in
     let past = subst (λ f. SamePast (f * f) old new) same c.lower_pairs.ensures.past in
@@ -135,6 +134,6 @@ returns g c =
     let all_is : all ≡ others = ap (λ x. x.left) c.into_iter-r-iterator.ensures.into_iter_gives ∙ c.iter-r-items.ensures in
     let is = c.concerned-others.ensures in
     let every = with_last laws b settled i m at (place_of_pair b.facts c.loop-r.table) (Gone all left)
-    (λ x l unb t. gone_all others all left all_is c.in-None.ensures.steps x (concerned c.args.all others m settled b.facts c.requires.whole is x l unb t)) in
+    (λ x l unb t. gone_all others all left all_is c.in-None-r.ensures.steps x (concerned c.args.all others m settled b.facts c.requires.whole is x l unb t)) in
     let so_far = c.loop-r.invariant.2 settled (λ x h. touched c.args.all others m settled b.facts c.requires.whole is x (subst (λ s. T (has s x)) all_is h)) in
     record { turn = record { runs = λ done floor r. every.runs done floor (so_far.runs done floor r) }; past = c.loop-r.invariant.3 }

@@ -20,7 +20,7 @@ loop-fact-preserved g c =
     let within = c.loop-fact.invariant.0 in
     let next = c.in-Some.ensures.steps in (
       next_within all left after x within next,
-      top_join laws {val = val} {Q = λ k. k ≡ x} c.loop-fact.invariant.1 (top_one laws {val = val} x refl (λ l p. p) c.single_place.ensures) c.higher-top.ensures
+      top_join laws {val = val} {Q = λ k. k ≡ x} c.loop-fact.invariant.1 (top_one laws {val = val} x refl (λ l p. p) c.single_place.ensures) c.larger-top.ensures.larger
           (gone_more all left after x within next) (gone_still all left after x within next)
           (λ k e. subst (Gone all after) (sym e) (gone_now all left after x within next)),
     )

@@ -1,7 +1,6 @@
-use Rattle.std.proofs.Common.{◌≡◌, ℕ, T, Decides, ap, ◌∙◌, subst}
+use Rattle.std.proofs.Common.{◌≡◌, ℕ, T, Decides, ap, ◌∙◌, subst, Some}
 use Rattle.facts.specs.Sets.{has}
 use Rattle.costs.specs.Estimates.{join_each}
-use Rattle.costs.specs.declared.estimate.Estimate.TheVariants.{Value}
 use Rattle.bounds.specs.Sound.{NotAbove}
 use Rattle.tables.specs.Equation.{offer_of}
 use Rattle.tables.specs.Fitting.{setting_in}
@@ -19,6 +18,6 @@ returns g c =
     let heads = c.without.result in
     let est_is = c.single_estimate.ensures in
     let is : c.join-offer.result ≡ offer_of tally b m (estimate_by_singles tally val m.needs) =
-    c.join-offer.ensures ∙ ap (λ x. join_each tally.join (Value x) c.single_estimate.result) c.counted_charge.ensures ∙ ap (λ x. offer_of tally b m x) est_is in
+    c.join-offer.ensures ∙ ap (λ x. join_each tally.join (Some x) c.single_estimate.result) c.counted_charge.ensures ∙ ap (λ x. offer_of tally b m x) est_is in
     let told = subst (λ e. Decides c.singles_within.result ((p : ℕ) → T (has heads p) → NotAbove tally (val p) e)) is c.singles_within.ensures in
     decides_like (λ h p made whole. h p (heads_in m heads c.without.ensures p (made, whole))) (λ h p i. let head = heads_from m heads c.without.ensures p i in h p head.0 head.1) told

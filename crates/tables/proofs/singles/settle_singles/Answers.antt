@@ -1,6 +1,5 @@
-use Rattle.std.proofs.Common.{◌<◌, true, false, cond, length, get_or, replicate, refl, ap, ◌∙◌, subst, arith, length-set}
+use Rattle.std.proofs.Common.{◌<◌, true, false, cond, length, get_or, replicate, refl, ap, ◌∙◌, subst, arith, length-set, None, Some}
 use Rattle.facts.specs.Sets.{has}
-use Rattle.costs.specs.declared.estimate.Estimate.TheVariants.{Value, Never}
 use Rattle.tables.specs.Equation.{setting_of}
 use Rattle.tables.specs.Worked.{Cheapest, SamePast}
 use Rattle.tables.proofs.Cells.{none_done, undone_less}
@@ -14,7 +13,7 @@ loop-chosen-init g c =
     let laws = laws_of g.V.Tally g.met.V.Tally.lawful in
     let b = setting_of c.args.task.now c.args.groups in (
       singles_first laws b c.begin_singles.new.table
-          (λ k l. c.begin_singles.ensures.inside k (omega (arith, c.facts-facts.ensures)) ∙ ap (λ s. cond (has s k) (Value g.V.Tally.nil) Never) c.start.ensures)
+          (λ k l. c.begin_singles.ensures.inside k (omega (arith, c.facts-facts.ensures)) ∙ ap (λ s. cond (has s k) (Some g.V.Tally.nil) None) c.start.ensures)
           c.take_singles.new.table (replicate 64 false) (none_done 64) c.take_singles.ensures.turn,
       refl,
       λ k h. refl,
@@ -45,7 +44,7 @@ returns g c =
     let table = c.loop-chosen.table in
     let begun = subst (λ f. SamePast f c.args.table.now c.begin_singles.new.table) c.facts-facts.ensures c.begin_singles.ensures.past in
     record {
-      worked = λ checked. singles_end laws b (known c.args.task.now c.args.groups checked) table (λ k. get_or c.loop-chosen.done k false) c.loop-chosen.invariant.0
+      worked = singles_end laws b (known c.args.task.now c.args.groups) table (λ k. get_or c.loop-chosen.done k false) c.loop-chosen.invariant.0
           (λ k l d. c.in_default.ensures k (omega (arith, c.from-count.ensures, c.facts-facts.ensures)) d);
       past = λ k h. c.loop-chosen.invariant.2 k h ∙ c.take_singles.ensures.past k h ∙ begun k h;
     }

@@ -1,10 +1,9 @@
-use Rattle.std.proofs.Common.{◌<◌, T, length, get_or, sym, refl, ap, ◌∙◌, subst, arith}
+use Rattle.std.proofs.Common.{◌<◌, T, length, get_or, sym, refl, ap, ◌∙◌, subst, arith, Some}
 use Rattle.facts.specs.Sets.{has}
 use Rattle.tasks.specs.Places.{At}
 use Rattle.tasks.proofs.Checks.{no_move}
 use Rattle.tasks.proofs.Places.{at_get}
 use Rattle.costs.specs.Estimates.{join_each}
-use Rattle.costs.specs.declared.estimate.Estimate.TheVariants.{Value}
 use Rattle.tables.specs.Equation.{setting_of, offer_of}
 use Rattle.tables.specs.Reading.{place_of_single, estimate_by_singles}
 use Rattle.tables.specs.Settling.{Lowers}
@@ -28,7 +27,7 @@ returns-then-is_touched g c =
     let heads = c.without.result in
     let offer = c.join-offer.result in
     let est_is = c.single_estimate.ensures in
-    let offer_is = c.join-offer.ensures ∙ ap (λ x. join_each tally.join (Value x) c.single_estimate.result) c.counted_charge.ensures
+    let offer_is = c.join-offer.ensures ∙ ap (λ x. join_each tally.join (Some x) c.single_estimate.result) c.counted_charge.ensures
     ∙ ap (λ x. offer_of tally b m x) (est_is ∙ ap (λ f. estimate_by_singles tally (place_of_single f old) m.needs) same) in
     record {
       turn = single_lowers laws b c.args.settled i m at (place_of_single b.facts old) (place_of_single b.facts new) heads offer (sym c.if-is_touched.ensures) c.without.ensures offer_is

@@ -1,13 +1,11 @@
-use Rattle.std.proofs.Common.{get_or, subst, arith}
+use Rattle.std.proofs.Common.{MatchOption, sym, subst}
 use Rattle.tasks.specs.Places.{At}
-use Rattle.tasks.proofs.Checks.{no_move}
-use Rattle.tasks.proofs.Places.{at_get, at_less}
+use Rattle.tasks.specs.declared.moves.Move.{Move}
+use Rattle.tasks.proofs.Places.{at_lent}
 use Rattle.tasks.proofs.task.get.Goals as goal
 
-pub returns-then-number-moves : goal.returns-then-number-moves
-returns-then-number-moves c =
-    subst (λ k. At c.args.moves.now k (get_or c.args.moves.now c.from-number.result no_move)) c.from-number.ensures
-    (at_get c.args.moves.now c.from-number.result no_move c.if-number-moves.true)
-
-pub returns-else-number-moves : goal.returns-else-number-moves
-returns-else-number-moves c = λ m at. omega (arith, at_less at)
+pub returns : goal.returns
+returns c =
+    subst (λ k. MatchOption c.copied.result ((m : Move) → At c.args.moves.now k m → ⊥) (At c.args.moves.now k)) c.from.ensures
+    (subst (λ r. MatchOption r ((m : Move) → At c.args.moves.now c.from.result m → ⊥) (At c.args.moves.now c.from.result)) (sym c.copied.ensures)
+    (at_lent c.args.moves.now c.from.result c.get.result c.get.ensures.lookup))

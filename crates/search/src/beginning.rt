@@ -1,12 +1,16 @@
-// What is looked at before a search is made or run, and its first record.
-ghost use Rattle.std.specs.Prelude.{◌≡◌, ◌<◌, length, set};
-ghost use Rattle.records.specs.Openings.{lent_of};
+// What is looked at before a search is made or run, and its first records.
+ghost use Rattle.std.specs.Prelude.{◌≡◌, ◌≤◌, [], length, min};
+ghost use Rattle.records.specs.Openings.{lent_of, problem_of};
+ghost use Rattle.records.specs.Tables.{table_of, recs_of, room_of, Untouched};
 ghost use Rattle.search.specs.Parts.{Judged, SizedUp, SoundOn};
+ghost use Rattle.theory.specs.Records.{First};
+ghost use Rattle.theory.specs.declared.refusal.Refusal.{Refusal};
 ghost use Rattle.theory.specs.declared.record.Mark.TheVariants.{Waiting};
 
 use bounds::{Bound, is_overdrawn};
 use costs::Tally;
 use facts::FactSet;
+use records::Records;
 use tasks::Task;
 use theory::{Mark, Record, Refusal};
 
@@ -53,9 +57,26 @@ pub fn goal_record<V: Tally>(goal: FactSet, promise: V) -> Record<V>
     }
 }
 
-pub fn write_first<V: Tally>(table: &mut [Record<V>], first: Record<V>)
-    requires { 0 < length table.old }
-    ensures { table.new ≡ set table.old 0 first }
+// The records of a new search over a table: that of the goal, or none where its estimate is never or the search is refused.
+pub fn first_records<'a, V: Tally, B: Bound<Value = V>>(
+    task: &Task<'_>,
+    bound: &B,
+    table: &'a mut [Record<V>],
+    made: Result<(), Refusal>,
+) -> Records<'a, V>
+    ensures first { made ≡ Ok tt → 1 ≤ length table.old → First (problem_of V.Tally B.Bound task.now bound.now (length table.old)) (recs_of result) }
+    ensures none { (why : Refusal) → made ≡ Err why → recs_of result ≡ [] }
+    ensures few { length (recs_of result) ≤ 1 }
+    ensures rest { Untouched (length (recs_of result)) table.old (table_of result) }
+    ensures room { room_of result ≡ min 65535 (length table.old) }
+    ensures lent { result.table.ghost_name ≡ table.entry.ghost_name }
 {
-    table[0] = first;
+    let mut records = Records::new(table, 65535);
+    if let Err(_) = made {
+        return records;
+    }
+    if let Some(promise) = bound.estimate(task.goal()) {
+        let _ = records.add(goal_record(task.goal(), promise));
+    }
+    records
 }

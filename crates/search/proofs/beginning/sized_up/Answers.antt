@@ -1,6 +1,6 @@
 use Rattle.std.proofs.Common.{inl, inr, arith}
 use Rattle.search.specs.Parts.{no_place, too_many, roomy}
-use Rattle.search.proofs.testing.sized_up.Goals as goal
+use Rattle.search.proofs.beginning.sized_up.Goals as goal
 
 pub returns-then-places-eq0 : goal.returns-then-places-eq0
 returns-then-places-eq0 g c = record {
