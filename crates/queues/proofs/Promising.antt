@@ -1,5 +1,5 @@
 -- A book of calls on a new search is a queue of the rules, and so keeps the promises.
-use Rattle.std.proofs.Common.{◌≡◌, ℕ, ◌≤◌, min, ◌⊎◌, List, ◌∷◌, length, take, Some, None, Option, sym, refl, ap, ◌∙◌, subst, subst₂, inl, inr, arith, length-take}
+use Rattle.std.proofs.Common.{◌≡◌, ℕ, ◌≤◌, min, ◌⊎◌, List, ◌∷◌, length, Ok, Err, Result, sym, refl, ap, ◌∙◌, subst, subst₂, inl, inr, arith, length-take}
 use Rattle.tasks.specs.Places.{At, here, there}
 use Rattle.tasks.specs.declared.task.Task.{Task}
 use Rattle.costs.specs.Laws.{Lawful}
@@ -17,17 +17,17 @@ use Rattle.theory.proofs.Basics.{impossible}
 use Rattle.theory.proofs.Kept.{queues_keep_promises}
 use Rattle.theory.proofs.Single.{only_sum_counts}
 use Rattle.theory.proofs.Told.{trail_same}
-use Rattle.records.proofs.Steps.{drop_further}
+use Rattle.records.proofs.Growing.{drop_further}
+use Rattle.records.specs.Tables.{recs_of}
 use Rattle.runs.specs.Trails.{Sane}
 use Rattle.search.specs.Calls.{Made}
 use Rattle.search.specs.States.{state_by, table_of, state_of}
-use Rattle.search.specs.declared.held.Held.{Held}
+use Rattle.search.specs.declared.search.Search.{Search}
 use Rattle.search.proofs.Answering.{plan_traced}
-use Rattle.queues.specs.Calls.{call_of, Follows, at_first, and_then, Log, blank, entry, Book, Serves}
+use Rattle.queues.specs.Calls.{Outcome, call_of, Follows, at_first, and_then, Log, blank, entry, Book, Serves}
 use Rattle.queues.specs.Promised.{KeepsPromises}
 use Rattle.queues.specs.declared.calls.Call.{Call}
 use Rattle.queues.specs.declared.calls.Call.TheVariants.{Run, ReadOut}
-use Rattle.queues.specs.declared.calls.Told.{Told}
 
 queue_by : {V : Type 0} {tally : Ghosts V} {P : Problem tally} {new : State V} {es : List (Event V)} {after : State V} → Makes P new → Follows P new es after → Queue P es after
 queue_by m at_first = made m
@@ -46,7 +46,7 @@ module _ {V : Type 0} (b : Lent V) (places : ℕ) where
   one_or_more here = inl refl
   one_or_more (there a) = inr (_, a)
 
-  log_steady : {calls : List Call} {told : List (Told V)} {n : ℕ} {es : List (Event V)} → Log b places calls told n es
+  log_steady : {calls : List Call} {told : List (Outcome V)} {n : ℕ} {es : List (Event V)} → Log b places calls told n es
       → (i m : ℕ) (d : Lent V) (r : Reply V) → At es i (asked (rules.run m d) (rules.ran r)) → b ≡ d
   log_steady blank i m d r a = elim a [ ]
   log_steady (entry {call = call} log c t) i m d r a = elim (one_or_more a) [
@@ -55,10 +55,10 @@ module _ {V : Type 0} (b : Lent V) (places : ℕ) where
   ]
 
 -- a search that has ended with a plan knows its trail
-plan_brief : {V : Type 0} (held : Option Refusal) (recs : List (Record V)) (end : End) {found : List (Record V)} {i : ℕ} {l : List ℕ} → ∥ Sane recs end ∥₁
-    → state_by held recs end ≡ holding found (Planned i) → Trail found i l → length l ≤ length recs
-plan_brief (Some why) recs end known e t = impossible (cc)
-plan_brief None recs end {found} {i} {l} known e t =
+plan_brief : {V : Type 0} (made_so : Result (Unit {0}) Refusal) (recs : List (Record V)) (end : End) {found : List (Record V)} {i : ℕ} {l : List ℕ} → ∥ Sane recs end ∥₁
+    → state_by made_so recs end ≡ holding found (Planned i) → Trail found i l → length l ≤ length recs
+plan_brief (Err why) recs end known e t = impossible (cc)
+plan_brief (Ok u) recs end {found} {i} {l} known e t =
     let same : found ≡ recs = cc in
     let is : end ≡ Planned i = cc in
     let way = plan_traced is known in
@@ -68,17 +68,16 @@ module _ {V : Type 0} {tally : Ghosts V} (lawful : Lawful tally.at_most tally.ni
   abbrev P : Problem tally
   P = record { task = task; bound = lent task; room = length table }
 
-  pub promised : (calls : List Call) (told told' : List (Told V)) (list list' : List ℕ) (h later : Held V) → Made P table h
-      → ∥ Sane (take later.count (table_of later)) later.end ∥₁
+  pub promised : (calls : List Call) (told told' : List (Outcome V)) (list list' : List ℕ) (h later : Search V) → Made P table h
       → Serves tally (lent h.task) calls told told' list list' h later → KeepsPromises P table calls told told' list list' later
-  promised calls told told' list list' h later new traced served = record {
+  promised calls told told' list list' h later new served = record {
     events = book.events;
     log = log;
     noted = served.noted;
     by_rules = queue;
     promises = queues_keep_promises lawful P new.honest book.events (state_of later) queue steady;
     sum_counts = λ fs other q s same. only_sum_counts lawful P new.honest book.events fs (state_of later) other queue steady q s same;
-    brief = λ recs i l e t. omega (arith, plan_brief later.kept (take later.count (table_of later)) later.end traced e t, length-take later.count (table_of later), served.stays.rest.size, new.rest.size);
+    brief = λ recs i l e t. omega (arith, plan_brief later.made (recs_of later.holding.records) later.holding.end later.holding.traced e t, length-take later.holding.records.count (table_of later), served.stays.rest.size, new.rest.size);
     list_read = book.list;
     table_rest = record {
       size = served.stays.rest.size ∙ new.rest.size;

@@ -9,12 +9,11 @@ use Rattle.theory.specs.declared.record.Record.{Record}
 use Rattle.theory.specs.declared.reply.End.TheVariants.{Planned}
 use Rattle.search.specs.Calls.{PastRecords}
 use Rattle.search.specs.States.{state_of}
-use Rattle.search.specs.declared.held.Held.{Held}
-use Rattle.queues.specs.Calls.{Log, Noted, written}
+use Rattle.search.specs.declared.search.Search.{Search}
+use Rattle.queues.specs.Calls.{Outcome, Log, Noted, written}
 use Rattle.queues.specs.declared.calls.Call.{Call}
-use Rattle.queues.specs.declared.calls.Told.{Told}
 
-pub record KeepsPromises {V : Type 0} {tally : Ghosts V} (P : Problem tally) (table : List (Record V)) (calls : List Call) (told told' : List (Told V)) (list list' : List ℕ) (h : Held V) : Type 0 where
+pub record KeepsPromises {V : Type 0} {tally : Ghosts V} (P : Problem tally) (table : List (Record V)) (calls : List Call) (told told' : List (Outcome V)) (list list' : List ℕ) (h : Search V) : Type 0 where
   -- what happened, the latest first: the calls, with the answers that stand beside them
   pub events : List (Event V)
   pub log : Log P.bound (length list) calls told' (min (length calls) (length told)) events

@@ -1,5 +1,5 @@
 // The calls of a queue, one after another.
-ghost use Rattle.std.specs.Prelude.{◌≡◌, ◌<◌, length, slice_set};
+ghost use Rattle.std.specs.Prelude.{◌≡◌};
 ghost use Rattle.records.specs.Openings.{lent_of};
 ghost use Rattle.queues.specs.Calls.{Replied, ReadFront, Serves};
 
@@ -14,16 +14,17 @@ pub fn answer_all<V: Tally, B: Bound<Value = V>>(
     search: &mut Search<'_, '_, V>,
     bound: &B,
     calls: &[Call],
-    replies: &mut [Told<V>],
+    replies: &mut [Result<Told<V>, Refusal>],
     list: &mut [u16],
 )
-    ensures served { Serves V.Tally (lent_of B.Bound search.old.held.task bound.now) calls.now replies.old replies.new list.old list.new search.old.held search.new.held }
-    ensures lent { search.new.held.table.ghost_name ≡ search.old.held.table.ghost_name }
+    ensures served { Serves V.Tally (lent_of B.Bound search.old.task bound.now) calls.now replies.old replies.new list.old list.new search.old search.new }
+    ensures lent { search.new.holding.records.table.ghost_name ≡ search.old.holding.records.table.ghost_name }
 {
-    let count = calls.len().min(replies.len());
-    for i in 0..count {
-        let told = answer(search, bound, calls[i], list);
-        note(replies, i, told);
+    for (i, told) in replies.iter_mut().enumerate() {
+        let Some(call) = calls.get(i) else {
+            return;
+        };
+        *told = answer(search, bound, *call, list);
     }
 }
 
@@ -33,19 +34,19 @@ fn answer<V: Tally, B: Bound<Value = V>>(
     bound: &B,
     call: Call,
     list: &mut [u16],
-) -> Told<V>
-    ensures replied { Replied V.Tally (lent_of B.Bound search.old.held.task bound.now) call list.old list.new search.old.held search.new.held result }
-    ensures lent { search.new.held.table.ghost_name ≡ search.old.held.table.ghost_name }
+) -> Result<Told<V>, Refusal>
+    ensures replied { Replied V.Tally (lent_of B.Bound search.old.task bound.now) call list.old list.new search.old search.new result }
+    ensures lent { search.new.holding.records.table.ghost_name ≡ search.old.holding.records.table.ghost_name }
 {
     match call {
-        Call::Run(grant) => match search.run(bound, grant) {
-            Ok(reply) => Told::Ran(reply),
-            Err(why) => Told::Refused(why),
-        },
-        Call::ReadOut(room) => match read_front(search, room, list) {
-            Ok(length) => Told::Read(length),
-            Err(why) => Told::Refused(why),
-        },
+        Call::Run(grant) => {
+            let reply = search.run(bound, grant)?;
+            Ok(Told::Ran(reply))
+        }
+        Call::ReadOut(room) => {
+            let length = read_front(search, room, list)?;
+            Ok(Told::Read(length))
+        }
     }
 }
 
@@ -55,16 +56,8 @@ fn read_front<V: Tally>(
     room: usize,
     list: &mut [u16],
 ) -> Result<u16, Refusal>
-    ensures { ReadFront V.Tally search.now.held room list.old list.new result }
+    ensures { ReadFront V.Tally search.now room list.old list.new result }
 {
     let places = room.min(list.len());
     search.read_out(&mut list[0..places])
-}
-
-// Writes an answer into its place.
-fn note<V: Tally>(replies: &mut [Told<V>], place: usize, told: Told<V>)
-    requires { place < length replies.old }
-    ensures { replies.new ≡ slice_set replies.old place told }
-{
-    replies[place] = told;
 }

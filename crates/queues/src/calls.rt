@@ -1,4 +1,4 @@
-use theory::{Refusal, Reply};
+use theory::Reply;
 
 // One call of a search.
 #[derive(Clone, Copy)]
@@ -9,12 +9,11 @@ pub enum Call {
     ReadOut(usize),
 }
 
-// What it is answered.
+// What it is told, where it is not refused.
 #[derive(Clone, Copy)]
 pub enum Told<V> {
     // what the run tells
     Ran(Reply<V>),
     // how many moves stand in the front of the list
     Read(u16),
-    Refused(Refusal),
 }

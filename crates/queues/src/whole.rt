@@ -9,7 +9,7 @@ use bounds::Bound;
 use costs::Tally;
 use search::Search;
 use tasks::Task;
-use theory::Record;
+use theory::{Record, Refusal};
 
 // Makes a search from a task, a bound and a table, then makes each call in turn, every run with the same bound.
 // The answers come into `replies`, beside their calls, and the moves read out into the front of `list`.
@@ -18,10 +18,10 @@ pub fn queue<'a, 't, V: Tally, B: Bound<Value = V>>(
     bound: &B,
     table: &'a mut [Record<V>],
     calls: &[Call],
-    replies: &mut [Told<V>],
+    replies: &mut [Result<Told<V>, Refusal>],
     list: &mut [u16],
 ) -> Search<'a, 't, V>
-    ensures { KeepsPromises (problem_of V.Tally B.Bound task.entry bound.now (length table.old)) table.old calls.now replies.old replies.new list.old list.new result.held }
+    ensures { KeepsPromises (problem_of V.Tally B.Bound task.entry bound.now (length table.old)) table.old calls.now replies.old replies.new list.old list.new result }
 {
     let mut search = Search::make(task, bound, table);
     answer_all(&mut search, bound, calls, replies, list);

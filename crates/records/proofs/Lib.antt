@@ -1,4 +1,5 @@
 pub mod Places
+pub mod Growing
 pub mod Picks
 pub mod Entering
 pub mod Steps

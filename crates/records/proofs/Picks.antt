@@ -1,9 +1,11 @@
 -- The record of a set and the choice, among the records looked at so far, one more at a time.
-use Rattle.std.proofs.Common.{◌≡◌, ℕ, ◌+◌, ◌≤◌, Bool, true, false, cond, ◌⊎◌, List, [], ◌∷◌, ◌++◌, length, take, Some, None, Option, sym, refl, ap, ◌∙◌, subst, subst₂, inl, inr, arith, MatchOption}
+use Rattle.std.proofs.Common.{◌≡◌, ℕ, ◌+◌, ◌<◌, ◌≤◌, Bool, true, false, cond, ◌⊎◌, List, [], ◌∷◌, ◌++◌, length, take, Some, None, Option, sym, refl, ap, ◌∙◌, subst, subst₂, inl, inr, arith, MatchOption}
+use Rattle.std.proofs.lemmas.List.{length-take-le}
+use Rattle.std.specs.List.{AllWithin, HoldsAt}
 use Rattle.facts.specs.declared.sets.FactSet.{FactSet}
 use Rattle.facts.proofs.Tests.{from_true}
 use Rattle.tasks.specs.Places.{At}
-use Rattle.tasks.proofs.Places.{at_less}
+use Rattle.tasks.proofs.Places.{at_less, at_same, at_get}
 use Rattle.costs.specs.declared.tally.Tally.{Ghosts}
 use Rattle.theory.specs.Openings.{Unrecorded}
 use Rattle.theory.specs.Records.{NoneWaits, Ahead, by_promise, by_spent, by_number}
@@ -13,18 +15,29 @@ use Rattle.theory.specs.declared.record.Record.{Record}
 use Rattle.theory.proofs.Basics.{impossible, not_both}
 use Rattle.theory.proofs.Keys.{ahead_trans}
 use Rattle.theory.proofs.Order.{Laws}
-use Rattle.theory.proofs.Places.{new, old, add_old, add_new, add_cases}
+use Rattle.theory.proofs.Places.{at_some, new, old, add_old, add_new, add_cases}
 use Rattle.records.specs.Choice.{IsChosen, is_before, best_of, better_of}
+use Rattle.records.specs.Tables.{IsRecorded}
 use Rattle.records.specs.declared.numbered.Numbered.{Numbered}
-use Rattle.records.proofs.Places.{take_next, take_length}
+use Rattle.records.proofs.Places.{take_next}
 
--- a set that none of the records has, nor the next, is not recorded with it
-pub unrecorded_more : {V : Type 0} (recs : List (Record V)) (r : Record V) (t : FactSet) → Unrecorded recs t → (r.set ≡ t → ⊥)
-    → Unrecorded (recs ++ (r ∷ [])) t
-unrecorded_more recs r t none ne j q f = elim (add_cases recs r f.at) [
-  | new e g ↦ ne (ap (λ x. x.set) (sym g) ∙ f.same)
-  | old ne' b ↦ none j q (record { at = b; same = f.same })
-]
+-- the first record of a set, or none, as a search through the records finds it
+module _ {V : Type 0} (recs : List (Record V)) (t : FactSet) where
+  abbrev pub Of : Record V → Type 0
+  Of r = r.set ≡ t
+
+  abbrev pub NotOf : Record V → Type 0
+  NotOf r = r.set ≡ t → ⊥
+
+  pub none_recorded : AllWithin NotOf recs 0 (length recs) → Unrecorded recs t
+  none_recorded none j q f =
+      let less = at_less f.at in
+      none j q (omega arith) less (ap (λ r. r.set) (at_same (at_get recs j q less) f.at) ∙ f.same)
+
+  pub one_recorded : {i : ℕ} → i < length recs → HoldsAt Of recs i → IsRecorded recs t i
+  one_recorded {i} less holds =
+      let r = at_some recs i less in
+      (r.0, record { at = r.1; same = ap (λ x. x.set) (at_same r.1 (at_get recs i r.0 less)) ∙ holds r.0 })
 
 unfoldable pub told : (b : Bool) → (b ≡ true) ⊎ (b ≡ false)
 told true = inl refl
@@ -138,4 +151,4 @@ pub picked_next : {V : Type 0} {tally : Ghosts V} → Laws tally → (table : Li
     → Picked tally (take i table) best → Picked tally (take (i + 1) table) after
 picked_next {tally = tally} laws table {i} {row} at best is p =
     subst₂ (Picked tally) (sym (take_next at)) (sym is)
-    (one_more laws (take i table) (record { number = i; row = row }) (sym (take_length table i (let h = at_less at in omega arith))) best p)
+    (one_more laws (take i table) (record { number = i; row = row }) (sym (length-take-le i table (let h = at_less at in omega arith))) best p)

@@ -1,5 +1,5 @@
 -- The opening of a choice over a lent table.
-use Rattle.std.specs.Prelude.{◌≡◌, ℕ, List, length, take, set as put, Result, MatchResult}
+use Rattle.std.specs.Prelude.{◌≡◌, ℕ, List, length, set as put, Result, MatchResult}
 use Rattle.tasks.specs.Places.{At}
 use Rattle.tasks.specs.Tasks.{moves_of}
 use Rattle.tasks.specs.declared.task.Task.{Task}
@@ -9,7 +9,7 @@ use Rattle.theory.specs.Openings.{TakesFirst, Opens, Overflows}
 use Rattle.theory.specs.Problem.{Problem, Lent}
 use Rattle.theory.specs.Records.{shutting}
 use Rattle.theory.specs.declared.record.Record.{Record}
-use Rattle.records.specs.declared.taking.Full.{Full}
+use Rattle.records.specs.declared.cells.Full.{Full}
 
 -- the problem of a call: the task, what is seen of the bound, and the room
 abbrev pub problem_of : {B V : Type 0} (tally : Ghosts V) → Bounding B V → Task → B → ℕ → Problem tally
@@ -28,13 +28,9 @@ abbrev pub ShutAt : {V : Type 0} → List (Record V) → ℕ → List (Record V)
 ShutAt {V} before i after = (q : Record V) × At before i q × (after ≡ put before i (shutting q))
 
 -- every move was taken from the choice c, number i; or a move found no room
-abbrev pub TookAll : {V : Type 0} {tally : Ghosts V} → Problem tally → (before after : List (Record V)) → (count i : ℕ) → Record V → Result ℕ Full → Type 0
-TookAll P before after count i c r = MatchResult r
-    (λ n. TakesFirst P (take count before) i c (length (moves_of P.task)) (take n after))
-    (λ f. Overflows P (take count before) i c (take f.count after))
+abbrev pub TookAll : {V : Type 0} {tally : Ghosts V} → Problem tally → (recs later : List (Record V)) → ℕ → Record V → Result (Unit {0}) Full → Type 0
+TookAll P recs later i c r = MatchResult r (λ u. TakesFirst P recs i c (length (moves_of P.task)) later) (λ f. Overflows P recs i c later)
 
 -- the choice c, number i, was opened; or a move found no room
-abbrev pub Opened : {V : Type 0} {tally : Ghosts V} → Problem tally → (before after : List (Record V)) → (count i : ℕ) → Record V → Result ℕ Full → Type 0
-Opened P before after count i c r = MatchResult r
-    (λ n. Opens P (take count before) i c (take n after))
-    (λ f. Overflows P (take count before) i c (take f.count after))
+abbrev pub Opened : {V : Type 0} {tally : Ghosts V} → Problem tally → (recs later : List (Record V)) → ℕ → Record V → Result (Unit {0}) Full → Type 0
+Opened P recs later i c r = MatchResult r (λ u. Opens P recs i c later) (λ f. Overflows P recs i c later)

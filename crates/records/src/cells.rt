@@ -1,47 +1,96 @@
-// Single places of the table.
-ghost use Rattle.std.specs.Prelude.{◌≡◌, ◌<◌, length, slice_set};
+// The records as they stand in the table.
+ghost use Rattle.std.specs.Prelude.{◌≡◌, ◌<◌, ◌≤◌, [], length, min, slice_set, MatchOption};
 ghost use Rattle.tasks.specs.Places.{At};
+ghost use Rattle.records.specs.Tables.{table_of, recs_of, room_of, Grown, Added};
 ghost use Rattle.records.specs.Openings.{ShutAt};
 
+use crate::table::Records;
 use costs::Tally;
 use theory::{Mark, Record};
 
-// The record of a number.
-pub fn read<V: Tally>(table: &[Record<V>], number: u16) -> Record<V>
-    requires { number < length table.now }
-    ensures { At table.now number result }
-{
-    table[usize::from(number)]
-}
+// The records fill the room lent, and one more is asked for.
+#[derive(Clone, Copy)]
+pub struct Full;
 
-// Writes the record of a number.
-pub fn write<V: Tally>(table: &mut [Record<V>], number: u16, new: Record<V>)
-    requires { number < length table.old }
-    ensures { table.new ≡ slice_set table.old number new }
-{
-    write_at(table, usize::from(number), new);
-}
+impl<'a, V: Tally> Records<'a, V> {
+    // None yet, in a table of which so many places may be records, or all where it has fewer.
+    pub fn new(table: &'a mut [Record<V>], room: u16) -> Self
+        ensures none { recs_of result ≡ [] }
+        ensures room { room_of result ≡ min room (length table.old) }
+        ensures table { table_of result ≡ table.old }
+        ensures lent { result.table.ghost_name ≡ table.entry.ghost_name }
+    {
+        let room = usize::from(room).min(table.len()) as u16;
+        Records {
+            table,
+            count: 0,
+            room,
+        }
+    }
 
-// A place that is worked out where it is written to is not covered for every kind of cost, so it comes in ready.
-fn write_at<V: Tally>(table: &mut [Record<V>], place: usize, new: Record<V>)
-    requires { place < length table.old }
-    ensures { table.new ≡ slice_set table.old place new }
-{
-    table[place] = new;
-}
+    // The records by their numbers.
+    pub fn rows(&self) -> &[Record<V>]
+        ensures rows { result.now ≡ recs_of self.now }
+        ensures few { length result.now ≤ 65535 }
+    {
+        &self.table[..usize::from(self.count)]
+    }
 
-// Marks a record as shut.
-pub fn shut<V: Tally>(table: &mut [Record<V>], number: u16)
-    requires { number < length table.old }
-    ensures { ShutAt table.old number table.new }
-{
-    let record = read(table, number);
-    write(
-        table,
-        number,
-        Record {
-            mark: Mark::Shut,
-            ..record
-        },
-    );
+    // The record of a number.
+    pub fn get(&self, number: u16) -> Option<Record<V>>
+        ensures { MatchOption result (length (recs_of self.now) ≤ number) (At (recs_of self.now) number) }
+    {
+        let row = self.rows().get(usize::from(number))?;
+        Some(*row)
+    }
+
+    // Adds a record after the others, if there is room.
+    pub fn add(&mut self, new: Record<V>) -> Result<(), Full>
+        ensures grown { Grown self.old self.new }
+        ensures added { Added (room_of self.old) (recs_of self.old) (recs_of self.new) new result }
+    {
+        if self.count >= self.room {
+            return Err(Full);
+        }
+        self.table[usize::from(self.count)] = new;
+        self.count += 1;
+        Ok(())
+    }
+
+    // Writes the record of a number.
+    pub(crate) fn put(&mut self, number: u16, new: Record<V>)
+        requires { number < length (recs_of self.old) }
+        ensures grown { Grown self.old self.new }
+        ensures put { recs_of self.new ≡ slice_set (recs_of self.old) number new }
+    {
+        self.table[usize::from(number)] = new;
+    }
+
+    // Marks the record of a number as shut, if there is one.
+    pub(crate) fn shut(&mut self, number: u16)
+        ensures grown { Grown self.old self.new }
+        ensures shut { number < length (recs_of self.old) → ShutAt (recs_of self.old) number (recs_of self.new) }
+    {
+        if let Some(row) = self.get(number) {
+            self.put(
+                number,
+                Record {
+                    mark: Mark::Shut,
+                    ..row
+                },
+            );
+        }
+    }
+
+    // The table as it stands.
+    pub fn into_table(self) -> &'a mut [Record<V>]
+        ensures { result.now ≡ table_of self.entry }
+    {
+        let Records {
+            table,
+            count: _,
+            room: _,
+        } = self;
+        table
+    }
 }

@@ -1,24 +1,31 @@
 // The choice. Nothing else compares promises, so a heap may go behind it.
-ghost use Rattle.std.specs.Prelude.{◌≡◌, ◌≤◌, length, take, MatchOption};
+ghost use Rattle.std.specs.Prelude.{◌≡◌, MatchOption};
 ghost use Rattle.theory.specs.Records.{NoneWaits};
 ghost use Rattle.records.specs.Choice.{is_before, better_of, IsChosen};
+ghost use Rattle.records.specs.Tables.{recs_of};
 
-use crate::cells::read;
 use crate::numbered::Numbered;
+use crate::table::Records;
 use costs::Tally;
 use theory::{Mark, Record};
 
-// The waiting record of least promise, then least spent, then lowest number, among the first `count` places.
-pub fn choice<V: Tally>(table: &[Record<V>], count: u16) -> Option<Numbered<V>>
-    requires { count ≤ length table.now }
-    ensures { MatchOption result (NoneWaits (take count table.now)) (IsChosen V.Tally (take count table.now)) }
-{
-    let mut best = None;
-    for number in 0..count {
-        let row = read(table, number);
-        best = better(best, Numbered { number, row });
+impl<V: Tally> Records<'_, V> {
+    // The waiting record of least promise, then least spent, then lowest number.
+    pub fn choice(&self) -> Option<Numbered<V>>
+        ensures { MatchOption result (NoneWaits (recs_of self.now)) (IsChosen V.Tally (recs_of self.now)) }
+    {
+        let mut best = None;
+        for (number, row) in self.rows().iter().enumerate() {
+            best = better(
+                best,
+                Numbered {
+                    number: number as u16,
+                    row: *row,
+                },
+            );
+        }
+        best
     }
-    best
 }
 
 // Which of the best so far and the record after it is the better choice: the earlier one where they tie.

@@ -1,28 +1,18 @@
 // The record of a set. Nothing else looks through the sets of the records, so an index may go behind it.
-ghost use Rattle.std.specs.Prelude.{◌≡◌, ◌≤◌, length, take, Decides, MatchOption};
+ghost use Rattle.std.specs.Prelude.{MatchOption};
 ghost use Rattle.theory.specs.Openings.{Unrecorded};
-ghost use Rattle.records.specs.Tables.{IsRecorded};
+ghost use Rattle.records.specs.Tables.{recs_of, IsRecorded};
 
-use crate::cells::read;
+use crate::table::Records;
 use costs::Tally;
 use facts::FactSet;
-use theory::Record;
 
-// The number of the record of a set, among the first `count` places.
-pub fn record_of<V: Tally>(table: &[Record<V>], count: u16, set: FactSet) -> Option<u16>
-    requires { count ≤ length table.now }
-    ensures { MatchOption result (Unrecorded (take count table.now) set) (IsRecorded (take count table.now) set) }
-{
-    for number in 0..count {
-        if is_same(read(table, number).set, set) {
-            return Some(number);
-        }
+impl<V: Tally> Records<'_, V> {
+    // The number of the record of a set.
+    pub fn record_of(&self, set: FactSet) -> Option<u16>
+        ensures { MatchOption result (Unrecorded (recs_of self.now) set) (IsRecorded (recs_of self.now) set) }
+    {
+        let number = self.rows().iter().position(|row| row.set == set)?;
+        Some(number as u16)
     }
-    None
-}
-
-fn is_same(one: FactSet, other: FactSet) -> bool
-    ensures { Decides result (one ≡ other) }
-{
-    one == other
 }

@@ -1,5 +1,4 @@
 // The records of a search in lent memory: the record of a set, the choice, and the opening of a choice.
-// A call is lent a table; its first `count` places are the records, and at most `room` of its places may be.
 #![tactic(auto)]
 
 mod cells;
@@ -7,11 +6,10 @@ mod choosing;
 mod finding;
 mod numbered;
 mod opening;
+mod table;
 mod taking;
 
-pub use cells::read;
-pub use choosing::choice;
-pub use finding::record_of;
+pub use cells::Full;
 pub use numbered::Numbered;
 pub use opening::open;
-pub use taking::Full;
+pub use table::Records;

@@ -1,22 +1,17 @@
 // One move taken from the choice: the record that it gives betters one of its set, or is added.
-ghost use Rattle.std.specs.Prelude.{◌≡◌, ◌+◌, ◌<◌, ◌≤◌, length, MatchResult, slice_set};
+ghost use Rattle.std.specs.Prelude.{◌≡◌, ◌<◌, length};
 ghost use Rattle.theory.specs.Openings.{child};
 ghost use Rattle.theory.specs.Problem.{Problem};
 ghost use Rattle.records.specs.Entries.{lowered_of, LoweredAt, Entered};
+ghost use Rattle.records.specs.Tables.{recs_of, room_of, Grown};
 
-use crate::cells::{read, write};
-use crate::finding::record_of;
+use crate::cells::Full;
 use crate::numbered::Numbered;
+use crate::table::Records;
 use costs::Tally;
 use facts::FactSet;
 use tasks::Move;
 use theory::{Mark, Record};
-
-// The records fill the room lent: so many are there, and one more is asked for.
-#[derive(Clone, Copy)]
-pub struct Full {
-    pub count: u16,
-}
 
 // The record that a move gives from the choice, for the set to which it regresses and the estimate of that set.
 pub fn child<V: Tally>(
@@ -39,31 +34,28 @@ pub fn child<V: Tally>(
     }
 }
 
-// Lets the new record better the waiting record of its set, or adds it, and tells how many records there are then.
-pub fn enter<V: Tally>(
-    table: &mut [Record<V>],
-    count: u16,
-    room: u16,
-    new: Record<V>,
-) -> Result<u16, Full>
-    requires count { count ≤ room }
-    requires room { room ≤ length table.old }
-    ensures { Entered V.Tally table.old table.new count room new result }
-{
-    let Some(number) = record_of(table, count, new.set) else {
-        return add(table, count, room, new);
-    };
-    lower(table, number, new);
-    Ok(count)
-}
+impl<V: Tally> Records<'_, V> {
+    // Lets the new record better the waiting record of its set, or adds it.
+    pub(crate) fn enter(&mut self, new: Record<V>) -> Result<(), Full>
+        ensures grown { Grown self.old self.new }
+        ensures entered { Entered V.Tally (room_of self.old) (recs_of self.old) (recs_of self.new) new result }
+    {
+        let Some(number) = self.record_of(new.set) else {
+            return self.add(new);
+        };
+        self.lower(number, new);
+        Ok(())
+    }
 
-// Writes what is left of the record of a number once a new one of its set comes.
-fn lower<V: Tally>(table: &mut [Record<V>], number: u16, new: Record<V>)
-    requires { number < length table.old }
-    ensures { LoweredAt V.Tally table.old number new table.new }
-{
-    let old = read(table, number);
-    write(table, number, lowered(old, new));
+    // Writes what is left of the record of a number once a new one of its set comes.
+    fn lower(&mut self, number: u16, new: Record<V>)
+        requires { number < length (recs_of self.old) }
+        ensures grown { Grown self.old self.new }
+        ensures lowered { LoweredAt V.Tally (recs_of self.old) number new (recs_of self.new) }
+    {
+        let old = self.rows()[usize::from(number)];
+        self.put(number, lowered(old, new));
+    }
 }
 
 // Which of two records of a set is left: a shut one stays as it is, else the one that has spent less, the old one where they tie.
@@ -74,21 +66,4 @@ fn lowered<V: Tally>(old: Record<V>, new: Record<V>) -> Record<V>
         Mark::Waiting if !old.spent.at_most(new.spent) => new,
         _ => old,
     }
-}
-
-// Adds a record after the others, if there is room.
-fn add<V: Tally>(
-    table: &mut [Record<V>],
-    count: u16,
-    room: u16,
-    new: Record<V>,
-) -> Result<u16, Full>
-    requires { room ≤ length table.old }
-    ensures { MatchResult result (λ n. (count < room) × (n ≡ count + 1) × (table.new ≡ slice_set table.old count new)) (λ f. (room ≤ count) × (f.count ≡ count) × (table.new ≡ table.old)) }
-{
-    if count >= room {
-        return Err(Full { count });
-    }
-    write(table, count, new);
-    Ok(count + 1)
 }

@@ -1,10 +1,16 @@
 -- A trail, one record at a time.
-use Rattle.std.proofs.Common.{◌≡◌, ℕ, zero, suc, ◌+◌, ◌<◌, ◌≤◌, List, [], ◌∷◌, ◌++◌, length, take, drop, set, sym, refl, ap, ◌∙◌, subst, arith}
+use Rattle.std.proofs.Common.{◌≡◌, ℕ, zero, suc, ◌+◌, ◌<◌, ◌≤◌, ◌⊎◌, List, [], ◌∷◌, ◌++◌, length, take, drop, set, Some, None, Option, sym, refl, ap, ◌∙◌, subst, inl, inr, arith}
 use Rattle.std.proofs.lemmas.List.{length-set, drop-set-lt, drop-drop, take_more_set, append_assoc, append-nil, length-take-le, length-append, nil_from_length, take-append-drop}
+use Rattle.std.specs.Iterator.{Yields}
+use Rattle.std.specs.Iterator.Adapters.{take_steps}
+use Rattle.std.specs.declared.iter.Take.{Take}
+use native.Mathlib.Decide.{dec_lt}
 use Rattle.tasks.specs.Places.{At}
 use Rattle.tasks.proofs.Places.{at_same, at_less}
 use Rattle.theory.specs.Runs.{Trail, root, up}
 use Rattle.theory.specs.declared.record.Record.{Record}
+use Rattle.runs.specs.Trails.{Steps}
+use Rattle.runs.specs.declared.trails.Trail.{Trail as Way}
 
 module _ {V : Type 0} {recs : List (Record V)} where
   pub trail_step : {at : ℕ} {rest : List ℕ} {r : Record V} → Trail recs at rest → (at ≡ zero → ⊥) → At recs at r
@@ -21,6 +27,34 @@ module _ {V : Type 0} {recs : List (Record V)} where
   trail_less root nz = absurd (nz refl)
   trail_less (up nz' a t) nz = at_less a
 
+-- what the next step says of the whole way
+module _ {V : Type 0} {recs : List (Record V)} where
+  pub way_done : {at : ℕ} {rest : List ℕ} → Trail recs at rest → (at ≡ zero) ⊎ (length recs ≤ at) → rest ≡ []
+  way_done root s = refl
+  way_done (up nz a t) (inl e) = absurd (nz e)
+  way_done (up nz a t) (inr past) = absurd (let less = at_less a in omega arith)
+
+  pub way_on : {at at' via : ℕ} {rest : List ℕ} → Trail recs at rest → Steps recs at (Some via) at'
+      → (more : List ℕ) × Trail recs at' more × (suc (length more) ≡ length rest) × (rest ≡ via ∷ more)
+  way_on t s =
+      let next = trail_step t s.2 s.1 in
+      (next.0, subst (λ i. Trail recs i next.0) (sym s.4) next.1, next.2, next.3 ∙ ap (λ k. k ∷ next.0) (sym s.3))
+
+-- a way of so many moves at most, read to its end
+abbrev pub Stepping : {V : Type 0} → Way V → Option ℕ → Way V → Type 0
+Stepping before via after = (after.rows.now ≡ before.rows.now) × Steps before.rows.now before.at via after.at
+
+pub all_steps : {V : Type 0} (xs : List ℕ) (s t u : Take (Way V)) → Yields (take_steps Stepping) s xs t → take_steps Stepping t None u
+    → (l : List ℕ) → Trail s.iter.rows.now s.iter.at l → length l ≤ s.n → xs ≡ l
+all_steps [] s t u here ends l way short = elim (dec_lt 0 s.n) [
+  | yes some ↦ sym (way_done way (subst (λ x. 0 < x.n → Stepping x.iter None u.iter) (sym here) ends some).1)
+  | no none ↦ sym (nil_from_length l (omega arith))
+]
+all_steps (via ∷ xs) s t u (mid, step, on) ends l way short =
+    let next = way_on way step.0.1 in
+    let rest = subst (λ r. Trail r mid.iter.at next.0) (sym step.0.0) next.1 in
+    ap {B = List ℕ} (λ r. via ∷ r) (all_steps xs mid t u on ends next.0 rest (omega (arith, step.1, next.2))) ∙ sym next.3
+
 -- the front of the list holds the trail so far, and its later places stay
 pub record Copied {V : Type 0} (recs : List (Record V)) (from at : ℕ) (before list : List ℕ) (steps : ℕ) : Type 0 where
   pub within : steps ≤ length list
@@ -31,21 +65,21 @@ module _ {V : Type 0} {recs : List (Record V)} (from : ℕ) (before : List ℕ) 
   pub copied_none : Copied recs from from before before 0
   copied_none = record { within = omega arith; stay = refl; front = λ whole t. (whole, t, refl) }
 
-  pub copied_more : {at steps : ℕ} (list : List ℕ) {after : List ℕ} {r : Record V} → after ≡ set list steps r.via → steps < length list → (at ≡ zero → ⊥)
-      → At recs at r → Copied recs from at before list steps → Copied recs from r.parent before after (steps + 1)
-  copied_more {at} {steps} list {after} {r} is less nz a c = subst (λ l. Copied recs from r.parent before l (steps + 1)) (sym is) (record {
-    within = (let h = length-set list steps r.via in omega arith);
-    stay = drop-set-lt (steps + 1) list steps r.via (omega arith) ∙ sym (drop-drop 1 steps list) ∙ ap (λ l. drop 1 l) c.stay
+  pub copied_more : {at at' steps via : ℕ} (list : List ℕ) → steps < length list → Steps recs at (Some via) at' → Copied recs from at before list steps
+      → Copied recs from at' before (set list steps via) (steps + 1)
+  copied_more {at} {at'} {steps} {via} list less step c = record {
+    within = (let h = length-set list steps via in omega arith);
+    stay = drop-set-lt (steps + 1) list steps via (omega arith) ∙ sym (drop-drop 1 steps list) ∙ ap (λ l. drop 1 l) c.stay
         ∙ drop-drop 1 steps before;
     front = λ whole t.
         let now = c.front whole t in
-        let next = trail_step now.1 nz a in (
+        let next = way_on now.1 step in (
           next.0,
           next.1,
-          ap (λ l. l ++ next.0) (take_more_set list steps r.via less) ∙ append_assoc (take steps list) (r.via ∷ []) next.0
+          ap (λ l. l ++ next.0) (take_more_set list steps via less) ∙ append_assoc (take steps list) (via ∷ []) next.0
               ∙ ap (λ l. take steps list ++ l) (sym next.3) ∙ now.2,
         );
-  })
+  }
 
   pub copied_all : {at steps : ℕ} (list : List ℕ) → Copied recs from at before list steps → (whole : List ℕ) → Trail recs from whole
       → ((rest : List ℕ) → Trail recs at rest → steps + length rest ≡ length whole → length rest ≡ 0) → list ≡ whole ++ drop (length whole) before

@@ -1,5 +1,5 @@
 -- What a search keeps true of the ways from its records to record 0, whatever bounds it is handed.
-use Rattle.std.specs.Prelude.{◌≡◌, ℕ, zero, ◌≤◌, List, [], ◌∷◌, length, ◌≢◌}
+use Rattle.std.specs.Prelude.{◌≡◌, ℕ, zero, ◌≤◌, ◌⊎◌, List, [], ◌∷◌, length, Some, None, Option, ◌≢◌}
 use Rattle.tasks.specs.Places.{At}
 use Rattle.theory.specs.Promise.{shuts}
 use Rattle.theory.specs.Runs.{Trail}
@@ -17,6 +17,11 @@ pub data Thread {V : Type 0} (recs : List (Record V)) : ℕ → List ℕ → Typ
 -- every record has such a trail, no longer than there are shut records
 pub record Threads {V : Type 0} (recs : List (Record V)) : Type 0 where
   pub each : (i : ℕ) (r : Record V) → At recs i r → (l : List ℕ) × Thread recs i l × (length l ≤ shuts recs)
+
+-- what comes on the way from record i, and from which record on: no move at record 0, nor where there is no record
+abbrev pub Steps : {V : Type 0} → List (Record V) → ℕ → Option ℕ → ℕ → Type 0
+Steps recs i None j = (i ≡ zero) ⊎ (length recs ≤ i)
+Steps {V} recs i (Some k) j = (r : Record V) × At recs i r × (i ≢ zero) × (k ≡ r.via) × (j ≡ r.parent)
 
 -- record i has a trail, no longer than there are records
 pub record Traced {V : Type 0} (recs : List (Record V)) (i : ℕ) : Type 0 where

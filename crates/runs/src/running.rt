@@ -1,76 +1,63 @@
 // A run, rule by rule.
-ghost use Rattle.std.specs.Prelude.{◌≡◌, ◌≤◌, length, take};
+ghost use Rattle.std.specs.Prelude.{length};
 ghost use Rattle.theory.specs.declared.reply.End.TheVariants.{Going};
 ghost use Rattle.records.specs.Openings.{problem_of};
-ghost use Rattle.records.specs.Tables.{Grown};
+ghost use Rattle.records.specs.Tables.{recs_of, room_of, Grown};
 ghost use Rattle.runs.specs.Ends.{Inside};
 ghost use Rattle.runs.specs.Trails.{Sane};
 ghost use Rattle.runs.specs.Outcomes.{RunsTo};
 
+use crate::holding::Holding;
 use crate::stopping::{Ran, arrived, arrives, filled, is_used_up, paused, ran_out};
 use crate::telling::tell;
 use crate::trails::trail_length;
 use bounds::Bound;
 use costs::Tally;
-use records::{choice, open};
+use records::{Full, Records, open};
 use tasks::Task;
-use theory::{End, Record};
+use theory::Reply;
 
 // A run with a grant of openings. A search that has ended tells its end again.
 pub fn run<V: Tally, B: Bound<Value = V>>(
     task: &Task<'_>,
     bound: &B,
-    table: &mut [Record<V>],
-    count: u16,
-    room: u16,
-    end: End,
+    holding: &mut Holding<'_, V>,
     grant: u32,
-) -> Ran<V>
-    requires count { count ≤ room }
-    requires room { room ≤ length table.old }
-    requires inside { Inside count end }
-    ensures grown { Grown table.old table.new count room result.count }
-    ensures inside { Inside result.count result.end }
-    ensures ran { ∥ Sane (take count table.old) end ∥₁ → RunsTo (problem_of V.Tally B.Bound task.now bound.now room) grant table.old table.new count end result }
+) -> Reply<V>
+    ensures grown { Grown holding.old.records holding.new.records }
+    ensures ran { RunsTo (problem_of V.Tally B.Bound task.now bound.now (room_of holding.old.records)) grant (recs_of holding.old.records) holding.old.end result (recs_of holding.new.records) holding.new.end }
 {
-    if let Some(reply) = tell(table, count, end) {
-        return Ran { count, end, reply };
+    if let Some(reply) = tell(holding) {
+        return reply;
     }
-    go_on(task, bound, table, count, room, grant)
+    let ran = go_on(task, bound, &mut holding.records, grant);
+    holding.end = ran.end;
+    ran.reply
 }
 
 // A run of a search that has not ended.
 fn go_on<V: Tally, B: Bound<Value = V>>(
     task: &Task<'_>,
     bound: &B,
-    table: &mut [Record<V>],
-    count: u16,
-    room: u16,
+    records: &mut Records<'_, V>,
     grant: u32,
 ) -> Ran<V>
-    requires count { count ≤ room }
-    requires room { room ≤ length table.old }
-    ensures grown { Grown table.old table.new count room result.count }
-    ensures inside { Inside result.count result.end }
-    ensures ran { ∥ Sane (take count table.old) Going ∥₁ → RunsTo (problem_of V.Tally B.Bound task.now bound.now room) grant table.old table.new count Going result }
+    ensures grown { Grown records.old records.new }
+    ensures inside { Inside (length (recs_of records.new)) result.end }
+    ensures ran { ∥ Sane (recs_of records.old) Going ∥₁ → RunsTo (problem_of V.Tally B.Bound task.now bound.now (room_of records.old)) grant (recs_of records.old) Going result.reply (recs_of records.new) result.end }
 {
-    let mut next = count;
     let mut opened = 0;
-    loop {
-        let Some(first) = choice(table, next) else {
-            return ran_out(next, opened);
-        };
+    while let Some(first) = records.choice() {
         if arrives(task, &first) {
-            let length = trail_length(table, next, first.number);
-            return arrived(next, &first, opened, length);
+            return arrived(&first, opened, trail_length(records, first.number));
         }
         if is_used_up(opened, grant) {
-            return paused(next, &first, opened);
+            return paused(&first, opened);
         }
-        match open(task, bound, table, next, room, &first) {
-            Ok(grown) => next = grown,
-            Err(full) => return filled(full, &first, opened),
+        match open(task, bound, records, &first) {
+            Ok(()) => opened += 1,
+            Err(Full) => return filled(&first, opened),
         }
-        opened += 1;
     }
+    ran_out(opened)
 }

@@ -6,21 +6,20 @@ ghost use Rattle.theory.specs.declared.reply.End.TheVariants.{Going, Planned, Ex
 ghost use Rattle.theory.specs.declared.reply.Kind.TheVariants.{Pending, Plan, NoPlan, Full as IsFull};
 
 use costs::Tally;
-use records::{Full, Numbered};
+use records::Numbered;
 use tasks::Task;
 use theory::{End, Kind, Reply};
 
-// What a run leaves: how many records there are then, how the search stands, and the reply.
+// What a run comes to: how the search stands then, and the reply.
 #[derive(Drop)]
 pub struct Ran<V> {
-    pub count: u16,
     pub end: End,
     pub reply: Reply<V>,
 }
 
 // No record waits.
-pub fn ran_out<V: Tally>(count: u16, opened: u32) -> Ran<V>
-    ensures { result ≡ record { count = count; end = Exhausted; reply = record { kind = NoPlan; opened = opened; value = V.Tally.nil; length = 0 } } }
+pub fn ran_out<V: Tally>(opened: u32) -> Ran<V>
+    ensures { result ≡ record { end = Exhausted; reply = record { kind = NoPlan; opened = opened; value = V.Tally.nil; length = 0 } } }
 {
     let reply = Reply {
         kind: Kind::NoPlan,
@@ -29,7 +28,6 @@ pub fn ran_out<V: Tally>(count: u16, opened: u32) -> Ran<V>
         length: 0,
     };
     Ran {
-        count,
         end: End::Exhausted,
         reply,
     }
@@ -43,8 +41,8 @@ pub fn arrives<V: Tally>(task: &Task<'_>, first: &Numbered<V>) -> bool
 }
 
 // The choice lies within the start: so many moves lead there, at the cost spent.
-pub fn arrived<V: Tally>(count: u16, first: &Numbered<V>, opened: u32, length: u16) -> Ran<V>
-    ensures { result ≡ record { count = count; end = Planned first.now.number; reply = record { kind = Plan; opened = opened; value = first.now.row.spent; length = length } } }
+pub fn arrived<V: Tally>(first: &Numbered<V>, opened: u32, length: u16) -> Ran<V>
+    ensures { result ≡ record { end = Planned first.now.number; reply = record { kind = Plan; opened = opened; value = first.now.row.spent; length = length } } }
 {
     let reply = Reply {
         kind: Kind::Plan,
@@ -53,7 +51,6 @@ pub fn arrived<V: Tally>(count: u16, first: &Numbered<V>, opened: u32, length: u
         length,
     };
     Ran {
-        count,
         end: End::Planned(first.number),
         reply,
     }
@@ -67,8 +64,8 @@ pub fn is_used_up(opened: u32, grant: u32) -> bool
 }
 
 // The grant is used up: the floor is what the choice promises.
-pub fn paused<V: Tally>(count: u16, first: &Numbered<V>, openings: u32) -> Ran<V>
-    ensures { result ≡ record { count = count; end = Going; reply = record { kind = Pending; opened = openings; value = first.now.row.promise; length = 0 } } }
+pub fn paused<V: Tally>(first: &Numbered<V>, openings: u32) -> Ran<V>
+    ensures { result ≡ record { end = Going; reply = record { kind = Pending; opened = openings; value = first.now.row.promise; length = 0 } } }
 {
     let reply = Reply {
         kind: Kind::Pending,
@@ -77,15 +74,14 @@ pub fn paused<V: Tally>(count: u16, first: &Numbered<V>, openings: u32) -> Ran<V
         length: 0,
     };
     Ran {
-        count,
         end: End::Going,
         reply,
     }
 }
 
 // The opening of the choice found no room and is not counted: the floor is what the choice promises.
-pub fn filled<V: Tally>(full: Full, first: &Numbered<V>, counted: u32) -> Ran<V>
-    ensures { result ≡ record { count = full.count; end = Filled first.now.number; reply = record { kind = IsFull; opened = counted; value = first.now.row.promise; length = 0 } } }
+pub fn filled<V: Tally>(first: &Numbered<V>, counted: u32) -> Ran<V>
+    ensures { result ≡ record { end = Filled first.now.number; reply = record { kind = IsFull; opened = counted; value = first.now.row.promise; length = 0 } } }
 {
     let reply = Reply {
         kind: Kind::Full,
@@ -94,7 +90,6 @@ pub fn filled<V: Tally>(full: Full, first: &Numbered<V>, counted: u32) -> Ran<V>
         length: 0,
     };
     Ran {
-        count: full.count,
         end: End::Filled(first.number),
         reply,
     }

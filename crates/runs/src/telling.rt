@@ -1,26 +1,25 @@
 // What a search that has ended tells again: the cost or the floor is read from the record of its end.
-ghost use Rattle.std.specs.Prelude.{◌≡◌, ◌≤◌, length, take, MatchOption};
+ghost use Rattle.std.specs.Prelude.{◌≡◌, MatchOption};
 ghost use Rattle.theory.specs.declared.reply.End.TheVariants.{Going};
-ghost use Rattle.runs.specs.Ends.{Inside, Retells};
+ghost use Rattle.records.specs.Tables.{recs_of};
+ghost use Rattle.runs.specs.Ends.{Retells};
 
+use crate::holding::Holding;
 use crate::trails::trail_length;
 use costs::Tally;
-use records::read;
-use theory::{End, Kind, Record, Reply};
+use theory::{End, Kind, Reply};
 
 // The reply of a search that has ended, and none of one that has not.
-pub fn tell<V: Tally>(table: &[Record<V>], count: u16, end: End) -> Option<Reply<V>>
-    requires count { count ≤ length table.now }
-    requires inside { Inside count end }
-    ensures { MatchOption result (end ≡ Going) (Retells V.Tally (take count table.now) end) }
+pub fn tell<V: Tally>(holding: &Holding<'_, V>) -> Option<Reply<V>>
+    ensures { MatchOption result (holding.now.end ≡ Going) (Retells V.Tally (recs_of holding.now.records) holding.now.end) }
 {
-    match end {
+    match holding.end {
         End::Going => None,
         End::Planned(number) => Some(Reply {
             kind: Kind::Plan,
             opened: 0,
-            value: read(table, number).spent,
-            length: trail_length(table, count, number),
+            value: holding.records.get(number)?.spent,
+            length: trail_length(&holding.records, number),
         }),
         End::Exhausted => Some(Reply {
             kind: Kind::NoPlan,
@@ -31,7 +30,7 @@ pub fn tell<V: Tally>(table: &[Record<V>], count: u16, end: End) -> Option<Reply
         End::Filled(number) => Some(Reply {
             kind: Kind::Full,
             opened: 0,
-            value: read(table, number).promise,
+            value: holding.records.get(number)?.promise,
             length: 0,
         }),
     }

@@ -1,43 +1,65 @@
 // The way from a record through the parents to record 0: the moves of a plan, in the order of carrying out.
-ghost use Rattle.std.specs.Prelude.{◌≡◌, ℕ, ◌<◌, ◌≤◌, List, ◌++◌, length, take, drop, slice_set};
-ghost use Rattle.theory.specs.Runs.{Trail};
+ghost use Rattle.std.specs.Prelude.{◌≡◌, ℕ, ◌≤◌, List, ◌++◌, length, drop};
+ghost use Rattle.theory.specs.Runs.{Trail as IsTrail};
+ghost use Rattle.records.specs.Tables.{recs_of};
+ghost use Rattle.runs.specs.Trails.{Steps};
 
 use costs::Tally;
-use records::read;
+use records::Records;
 use theory::Record;
 
-// How many moves lead from a record to record 0. It stops after `count` of them: no way is longer.
-pub fn trail_length<V: Tally>(table: &[Record<V>], count: u16, from: u16) -> u16
-    requires { count ≤ length table.now }
-    ensures { (l : List ℕ) → Trail (take count table.now) from l → length l ≤ count → result ≡ length l }
-{
-    let mut at = from;
-    let mut steps = 0;
-    while at != 0 && at < count && steps < count {
-        at = read(table, at).parent;
-        steps += 1;
+// The moves from here on. Among records whose parents went round in a circle it would not end.
+#[derive(Drop)]
+struct Trail<'r, V> {
+    rows: &'r [Record<V>],
+    at: u16,
+}
+
+impl<V: Tally> Iterator for Trail<'_, V> {
+    type Item = u16;
+
+    ghost next_gives = { λ before via after. (after.rows.now ≡ before.rows.now) × Steps before.rows.now before.at via after.at };
+
+    fn next(&mut self) -> Option<u16> {
+        if self.at == 0 {
+            return None;
+        }
+        let row = self.rows.get(usize::from(self.at))?;
+        self.at = row.parent;
+        Some(row.via)
     }
-    steps
+}
+
+// How many moves lead from a record to record 0. No way has more than there are records.
+pub fn trail_length<V: Tally>(records: &Records<'_, V>, from: u16) -> u16
+    ensures { (l : List ℕ) → IsTrail (recs_of records.now) from l → length l ≤ length (recs_of records.now) → result ≡ length l }
+{
+    count_moves(records.rows(), from) as u16
 }
 
 // Writes these moves into the front of the list, as far as it goes; its later places stay.
-pub fn copy_trail<V: Tally>(table: &[Record<V>], count: u16, from: u16, list: &mut [u16])
-    requires { count ≤ length table.now }
-    ensures { (l : List ℕ) → Trail (take count table.now) from l → length l ≤ length list.old → list.new ≡ l ++ drop (length l) list.old }
+pub fn copy_trail<V: Tally>(records: &Records<'_, V>, from: u16, list: &mut [u16])
+    ensures { (l : List ℕ) → IsTrail (recs_of records.now) from l → length l ≤ length list.old → list.new ≡ l ++ drop (length l) list.old }
 {
-    let mut at = from;
-    let mut steps = 0;
-    while at != 0 && at < count && steps < list.len() {
-        let row = read(table, at);
-        put(list, steps, row.via);
-        at = row.parent;
-        steps += 1;
-    }
+    copy_moves(records.rows(), from, list);
 }
 
-fn put(list: &mut [u16], place: usize, number: u16)
-    requires { place < length list.old }
-    ensures { list.new ≡ slice_set list.old place number }
+fn count_moves<V: Tally>(rows: &[Record<V>], from: u16) -> usize
+    ensures few { result ≤ length rows.now }
+    ensures all { (l : List ℕ) → IsTrail rows.now from l → length l ≤ length rows.now → result ≡ length l }
 {
-    list[place] = number;
+    let trail = Trail { rows, at: from };
+    trail.take(rows.len()).count()
+}
+
+fn copy_moves<V: Tally>(rows: &[Record<V>], from: u16, list: &mut [u16])
+    ensures { (l : List ℕ) → IsTrail rows.now from l → length l ≤ length list.old → list.new ≡ l ++ drop (length l) list.old }
+{
+    let mut trail = Trail { rows, at: from }.take(list.len());
+    for place in list.iter_mut() {
+        let Some(via) = trail.next() else {
+            return;
+        };
+        *place = via;
+    }
 }

@@ -1,5 +1,5 @@
 -- The answer to a call, as the rules have it.
-use Rattle.std.proofs.Common.{◌≡◌, ℕ, ◌<◌, ◌≤◌, List, length, take, Some, None, Option, sym, refl, subst, arith, length-take}
+use Rattle.std.proofs.Common.{◌≡◌, ℕ, ◌<◌, ◌≤◌, List, length, Ok, Err, Result, sym, refl, subst}
 use Rattle.costs.specs.declared.tally.Tally.{Ghosts}
 use Rattle.theory.specs.Problem.{Problem}
 use Rattle.theory.specs.Promise.{records_of}
@@ -12,20 +12,19 @@ use Rattle.theory.specs.declared.refusal.Refusal.TheVariants.{NotPlanned, ListTo
 use Rattle.theory.specs.declared.reply.End.{End}
 use Rattle.theory.specs.declared.reply.End.TheVariants.{Going, Planned, Exhausted, Filled}
 use Rattle.records.specs.Tables.{Untouched}
-use Rattle.records.proofs.Places.{take_length}
 use Rattle.runs.specs.Trails.{Traced, Sane}
 use Rattle.runs.proofs.Climbing.{found}
 use Rattle.search.specs.States.{state_by}
 
-module _ {V : Type 0} {tally : Ghosts V} (P : Problem tally) {held : Option Refusal} where
+module _ {V : Type 0} {tally : Ghosts V} (P : Problem tally) {made : Result (Unit {0}) Refusal} where
   -- a search whose make was refused
-  pub keeps_number : (recs : List (Record V)) (end : End) {call : Call V} {why : Refusal} → held ≡ Some why
-      → Answers P (state_by held recs end) call (refused why) (state_by held recs end)
+  pub keeps_number : (recs : List (Record V)) (end : End) {call : Call V} {why : Refusal} → made ≡ Err why
+      → Answers P (state_by made recs end) call (refused why) (state_by made recs end)
   keeps_number recs end {call} {why} e = subst (λ o. Answers P (state_by o recs end) call (refused why) (state_by o recs end)) (sym e) still_kept
 
   -- a search that was made
-  pub by_rules : {recs later : List (Record V)} {end last : End} {call : Call V} {a : Answer V} → held ≡ None
-      → Answers P (holding recs end) call a (holding later last) → Answers P (state_by held recs end) call a (state_by held later last)
+  pub by_rules : {recs later : List (Record V)} {end last : End} {call : Call V} {a : Answer V} → made ≡ Ok tt
+      → Answers P (holding recs end) call a (holding later last) → Answers P (state_by made recs end) call a (state_by made later last)
   by_rules {recs} {later} {end} {last} {call} {a} e answers = subst (λ o. Answers P (state_by o recs end) call a (state_by o later last)) (sym e) answers
 
 -- a search that has ended with a plan
@@ -46,19 +45,15 @@ no_plan (Planned i) ne = absurd (ne i refl)
 no_plan Exhausted ne = ended_with_none
 no_plan (Filled i) ne = ended_with_full
 
--- the places past the records of a search that was made are those past its count
-pub past_count : {V : Type 0} {held : Option Refusal} {before after : List (Record V)} {count : ℕ} (end : End) → held ≡ None → count ≤ length after
-    → Untouched count before after → Untouched (length (records_of (state_by held (take count after) end))) before after
-past_count {before = before} {after = after} {count = count} end e h same =
-    subst (λ o. Untouched (length (records_of (state_by o (take count after) end))) before after) (sym e)
-    (subst (λ n. Untouched n before after) (sym (take_length after count h)) same)
+-- the records of a search that was made are those that it holds
+module _ {V : Type 0} {made : Result (Unit {0}) Refusal} (e : made ≡ Ok tt) where
+  pub past_records : {before after : List (Record V)} (recs : List (Record V)) (end : End) → Untouched (length recs) before after
+      → Untouched (length (records_of (state_by made recs end))) before after
+  past_records {before} {after} recs end same = subst (λ o. Untouched (length (records_of (state_by o recs end))) before after) (sym e) same
 
--- and there are no fewer of them than before
-pub more_records : {V : Type 0} {held : Option Refusal} (before after : List (Record V)) {count next : ℕ} (end last : End) → held ≡ None → count ≤ next
-    → next ≤ length after → length (records_of (state_by held (take count before) end)) ≤ length (records_of (state_by held (take next after) last))
-more_records before after {count} {next} end last e more fits =
-    subst (λ o. length (records_of (state_by o (take count before) end)) ≤ length (records_of (state_by o (take next after) last))) (sym e)
-    (omega (arith, length-take count before, take_length after next fits))
+  pub more_records : (recs later : List (Record V)) (end last : End) → length recs ≤ length later
+      → length (records_of (state_by made recs end)) ≤ length (records_of (state_by made later last))
+  more_records recs later end last more = subst (λ o. length (records_of (state_by o recs end)) ≤ length (records_of (state_by o later last))) (sym e) more
 
 pub untouched : {V : Type 0} {n : ℕ} {table : List (Record V)} → Untouched n table table
 untouched = record { size = refl; rest = refl }

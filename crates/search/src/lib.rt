@@ -1,9 +1,7 @@
 // The search: make, run, read out, close.
 #![tactic(auto)]
 
-mod held;
-mod holding;
+mod beginning;
 mod search;
-mod testing;
 
 pub use search::Search;

@@ -1,19 +1,21 @@
 // A search, which owes its table until it is closed.
-ghost use Rattle.std.specs.Prelude.{◌≡◌, ◌≤◌, length, take, None};
-ghost use Rattle.runs.specs.Ends.{Inside};
-ghost use Rattle.runs.specs.Trails.{Sane};
+ghost use Rattle.std.specs.Prelude.{◌≡◌, length, Ok};
+ghost use Rattle.records.specs.Tables.{table_of, room_of};
 
-use crate::held::Held;
+use runs::Holding;
+use tasks::Task;
+use theory::Refusal;
 
 pub mod calls;
+mod steps;
 
-// What every call finds and leaves: the records fit into the table, the end tells of one of them, and each has its way back to record 0.
+// What every call finds and leaves.
 #[derive(Drop)]
 pub struct Search<'a, 't, V> {
-    held: Held<'a, 't, V>,
-    ghost counted: { held.count ≤ held.room },
-    ghost fits: { held.room ≤ length held.table.now },
-    ghost whole: { (held.kept ≡ None → held.room ≡ length held.table.now) },
-    ghost inside: { ∥ Inside held.count held.end ∥₁ },
-    ghost traced: { (∥ Sane (take held.count held.table.now) held.end ∥₁) },
+    task: Task<'t>,
+    holding: Holding<'a, V>,
+    // why it could not be made, if so; every later call is refused with the same number
+    made: Result<(), Refusal>,
+    // if it was made, every place of its table may be a record
+    ghost whole: { (made ≡ Ok tt → room_of holding.records ≡ length (table_of holding.records)) },
 }

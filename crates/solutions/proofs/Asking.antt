@@ -1,5 +1,5 @@
 -- What the queue of the program's two calls comes to.
-use Rattle.std.proofs.Common.{◌≡◌, ℕ, zero, suc, min, List, [], ◌∷◌, length, get_or, refl, ap, ◌∙◌, subst}
+use Rattle.std.proofs.Common.{◌≡◌, ℕ, zero, suc, min, List, [], ◌∷◌, length, get_or, Ok, refl, ap, ◌∙◌, subst}
 use Rattle.tasks.specs.Places.{At, here, there}
 use Rattle.tasks.specs.declared.task.Task.{Task}
 use Rattle.tasks.proofs.Places.{at_same, at_less, at_get}
@@ -9,14 +9,15 @@ use Rattle.theory.specs.Promise.{Promises}
 use Rattle.theory.specs.Queue.{run, read_out, Answer, State, Event, asked, Queue}
 use Rattle.theory.specs.declared.record.Record.{Record}
 use Rattle.theory.specs.declared.reply.Reply.{Reply}
+use Rattle.theory.proofs.Basics.{impossible}
 use Rattle.search.specs.States.{state_of}
-use Rattle.search.specs.declared.held.Held.{Held}
-use Rattle.queues.specs.Calls.{call_of, told_of, written, Log, blank, entry}
+use Rattle.search.specs.declared.search.Search.{Search}
+use Rattle.queues.specs.Calls.{Outcome, call_of, told_of, written, Log, blank, entry}
 use Rattle.queues.specs.Promised.{KeepsPromises}
 use Rattle.queues.specs.declared.calls.Call.{Call}
 use Rattle.queues.specs.declared.calls.Call.TheVariants.{Run, ReadOut}
 use Rattle.queues.specs.declared.calls.Told.{Told}
-use Rattle.queues.specs.declared.calls.Told.TheVariants.{Ran}
+use Rattle.queues.specs.declared.calls.Told.TheVariants.{Ran, Read}
 use Rattle.solutions.specs.Solutions.{Solved}
 use Rattle.solutions.proofs.Bounding.{Useful}
 use Rattle.solutions.proofs.Telling.{posed, both, Brief, tells}
@@ -25,7 +26,7 @@ abbrev pub calls : List Call
 calls = Run 1024 ∷ (ReadOut 1024 ∷ [])
 
 -- the latest entry of a log, and those before it
-record Latest (b : Lent Minutes) (places : ℕ) (told : List (Told Minutes)) (n : ℕ) (events : List (Event Minutes)) : Type 0 where
+record Latest (b : Lent Minutes) (places : ℕ) (told : List (Outcome Minutes)) (n : ℕ) (events : List (Event Minutes)) : Type 0 where
   pub call : Call
   pub answer : Answer Minutes
   pub earlier : List (Event Minutes)
@@ -34,20 +35,20 @@ record Latest (b : Lent Minutes) (places : ℕ) (told : List (Told Minutes)) (n 
   pub made : At calls n call
   pub stands : At told n (told_of answer)
 
-latest : {b : Lent Minutes} {places : ℕ} {told : List (Told Minutes)} {n : ℕ} {events : List (Event Minutes)} → Log b places calls told (suc n) events → Latest b places told n events
+latest : {b : Lent Minutes} {places : ℕ} {told : List (Outcome Minutes)} {n : ℕ} {events : List (Event Minutes)} → Log b places calls told (suc n) events → Latest b places told n events
 latest (entry log c t) = record { call = _; answer = _; earlier = _; is = refl; log = log; made = c; stands = t }
 
-no_entry : {b : Lent Minutes} {places : ℕ} {told : List (Told Minutes)} {events : List (Event Minutes)} → Log b places calls told zero events → events ≡ []
+no_entry : {b : Lent Minutes} {places : ℕ} {told : List (Outcome Minutes)} {events : List (Event Minutes)} → Log b places calls told zero events → events ≡ []
 no_entry blank = refl
 
 -- the two calls stand in the log, and the answer of the run in the first place
-record Logged (b : Lent Minutes) (told : List (Told Minutes)) (events : List (Event Minutes)) : Type 0 where
+record Logged (b : Lent Minutes) (told : List (Outcome Minutes)) (events : List (Event Minutes)) : Type 0 where
   pub one : Answer Minutes
   pub two : Answer Minutes
   pub is : events ≡ both b one two
   pub stands : At told 0 (told_of one)
 
-logged : (b : Lent Minutes) (places : ℕ) (told : List (Told Minutes)) (events : List (Event Minutes)) → places ≡ 1024 → Log b places calls told 2 events → Logged b told events
+logged : (b : Lent Minutes) (places : ℕ) (told : List (Outcome Minutes)) (events : List (Event Minutes)) → places ≡ 1024 → Log b places calls told 2 events → Logged b told events
 logged b places told events size log =
     let l2 : Latest b places told 1 events = latest log in
     let l1 : Latest b places told 0 l2.earlier = latest l2.log in
@@ -59,12 +60,12 @@ logged b places told events size log =
     record { one = l1.answer; two = l2.answer; is = cc; stands = l1.stands }
 
 -- the run is answered first, and what it tells is what the search finds
-pub record Asked (t : Task) (told : List (Told Minutes)) (before after : List ℕ) : Type 0 where
+pub record Asked (t : Task) (told : List (Outcome Minutes)) (before after : List ℕ) : Type 0 where
   pub reply : Reply Minutes
-  pub stands : At told 0 (Ran reply)
+  pub stands : At told 0 (Ok (Ran reply))
   pub solved : Solved t before after reply
 
-solves : (t : Task) (b : Lent Minutes) (told : List (Told Minutes)) (events : List (Event Minutes)) (before after : List ℕ) (now : State Minutes)
+solves : (t : Task) (b : Lent Minutes) (told : List (Outcome Minutes)) (events : List (Event Minutes)) (before after : List ℕ) (now : State Minutes)
     → Useful t 255 b → Logged b told events → Queue (posed t b) events now → Promises (posed t b) events now → Brief now → after ≡ written events before
     → Asked t told before after
 solves t b told events before after now u l q p brief list =
@@ -96,21 +97,24 @@ solves t b told events before after now u l q p brief list =
     read_so : {a b c d : List ℕ} → a ≡ b → b ≡ c → c ≡ d → a ≡ d
     read_so e f g = e ∙ f ∙ g
 
-pub asks : (t : Task) (b : Lent Minutes) (table : List (Record Minutes)) (told told' : List (Told Minutes)) (before after : List ℕ) (h : Held Minutes)
+pub asks : (t : Task) (b : Lent Minutes) (table : List (Record Minutes)) (told told' : List (Outcome Minutes)) (before after : List ℕ) (h : Search Minutes)
     → Useful t 255 b → length before ≡ 1024 → length told ≡ 2 → KeepsPromises (posed t b) table calls told told' before after h → Asked t told' before after
 asks t b table told told' before after h u size two k =
     let log = subst (λ n. Log b (length before) calls told' n k.events) (ap (min 2) two) k.log in
     solves t b told' k.events before after (state_of h) u (logged b (length before) told' k.events size log) k.by_rules k.promises k.brief k.list_read
 
-module _ {t : Task} {told : List (Told Minutes)} {before after : List ℕ} (x : Asked t told before after) (other : Told Minutes) where
-  first_is : get_or told 0 other ≡ Ran x.reply
+module _ {t : Task} {told : List (Outcome Minutes)} {before after : List ℕ} (x : Asked t told before after) (other : Outcome Minutes) where
+  first_is : get_or told 0 other ≡ Ok (Ran x.reply)
   first_is = at_same (at_get told 0 other (at_less x.stands)) x.stands
 
-  pub found : (r : Reply Minutes) → get_or told 0 other ≡ Ran r → Solved t before after r
+  pub found : (r : Reply Minutes) → get_or told 0 other ≡ Ok (Ran r) → Solved t before after r
   found r is =
       let first = first_is in
       let same : x.reply ≡ r = cc in
       subst (Solved t before after) same x.solved
 
-  pub always_found : ((r : Reply Minutes) → get_or told 0 other ≡ Ran r → ⊥) → ⊥
+  pub always_found : ((r : Reply Minutes) → get_or told 0 other ≡ Ok (Ran r) → ⊥) → ⊥
   always_found not_ran = not_ran x.reply first_is
+
+pub not_read : {o : Outcome Minutes} {t : Told Minutes} {n : ℕ} {r : Reply Minutes} → o ≡ Ok t → t ≡ Read n → o ≡ Ok (Ran r) → ⊥
+not_read e f g = impossible (cc)

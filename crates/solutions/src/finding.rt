@@ -27,13 +27,14 @@ fn search_by(task: Task<'_>, pairs: &[Estimate<Minutes>], list: &mut [u16; 1024]
 {
     let bound = Pair::of(&task, 255, pairs);
     let mut table = [blank(); 1024];
-    let mut told = [Told::Refused(Refusal::NotPlanned); 2];
+    let mut told = [Err(Refusal::NotPlanned); 2];
     let calls = [Call::Run(1024), Call::ReadOut(1024)];
     let _ = queue(task, &bound, &mut table, &calls, &mut told, list);
     let first = told[0];
-    match first {
+    let Ok(told) = first else { unreachable() };
+    match told {
         Told::Ran(reply) => reply,
-        _ => unreachable(),
+        Told::Read(_) => unreachable(),
     }
 }
 

@@ -13,7 +13,7 @@ use facts::FactSet;
 #[cfg(test)]
 use queues::Told;
 #[cfg(test)]
-use theory::{Kind, Mark, Record};
+use theory::{Kind, Mark, Record, Refusal};
 
 // A record to fill a table with.
 #[cfg(test)]
@@ -41,10 +41,10 @@ fn word(kind: Kind) -> &'static str {
 
 // A reply as a word, its openings, its value and its length; of a read-out the length; of a refusal the number as value.
 #[cfg(test)]
-fn shown(told: Told<Minutes>) -> (&'static str, u32, u32, u16) {
+fn shown(told: Result<Told<Minutes>, Refusal>) -> (&'static str, u32, u32, u16) {
     match told {
-        Told::Ran(r) => (word(r.kind), r.opened, r.value.total, r.length),
-        Told::Read(n) => ("read", 0, 0, n),
-        Told::Refused(why) => ("refused", 0, u32::from(why.number()), 0),
+        Ok(Told::Ran(r)) => (word(r.kind), r.opened, r.value.total, r.length),
+        Ok(Told::Read(n)) => ("read", 0, 0, n),
+        Err(why) => ("refused", 0, u32::from(why.number()), 0),
     }
 }

@@ -18,7 +18,7 @@ fn blindly(
     goal: &[u8],
     places: usize,
     calls: &[Call],
-    replies: &mut [Told<Minutes>],
+    replies: &mut [Result<Told<Minutes>, Refusal>],
     list: &mut [u16],
 ) -> Result<(), Fail> {
     let moves = two_moves()?;
@@ -43,8 +43,8 @@ fn one_run(
     goal: &[u8],
     places: usize,
     grant: u32,
-) -> Result<Told<Minutes>, Fail> {
-    let mut replies = [Told::Refused(Refusal::Misfit)];
+) -> Result<Result<Told<Minutes>, Refusal>, Fail> {
+    let mut replies = [Err(Refusal::Misfit)];
     blindly(
         rt,
         start,
@@ -70,7 +70,7 @@ fn four_runs_and_what_is_refused(rt: HostRuntime) -> Result<(), Fail> {
         Call::ReadOut(9),
         Call::Run(5),
     ];
-    let mut told = [Told::Refused(Refusal::Misfit); 9];
+    let mut told = [Err(Refusal::Misfit); 9];
     let mut list = [8, 8, 8];
     blindly(&rt, &[0], &[1, 2], 4, &calls, &mut told, &mut list)?;
     assert_eq!(rt; shown(told[0]), ("pending", 1, 4, 0));
@@ -118,7 +118,7 @@ fn nothing_to_do_and_nothing_to_be_done(rt: HostRuntime) -> Result<(), Fail> {
 #[test]
 fn fewer_replies_than_calls(rt: HostRuntime) -> Result<(), Fail> {
     let calls = [Call::Run(1), Call::Run(9)];
-    let mut told = [Told::Refused(Refusal::Misfit)];
+    let mut told = [Err(Refusal::Misfit)];
     blindly(&rt, &[0], &[1, 2], 4, &calls, &mut told, &mut [])?;
     assert_eq!(rt; shown(told[0]), ("pending", 1, 4, 0));
     Ok(())
@@ -130,11 +130,11 @@ fn the_dearest_move_counts(rt: HostRuntime) -> Result<(), Fail> {
     let task = task_of(draft_of(&moves)?)?;
     let mut table = [blank::<Worst>(); 4];
     let bound = Blind { of: PhantomData };
-    let mut told = [Told::Refused(Refusal::Misfit); 2];
+    let mut told = [Err(Refusal::Misfit); 2];
     let mut list = [9, 9];
     let calls = [Call::Run(4), Call::ReadOut(2)];
     let _ = queue(task, &bound, &mut table, &calls, &mut told, &mut list);
-    let Told::Ran(reply) = told[0] else {
+    let Ok(Told::Ran(reply)) = told[0] else {
         return Err(Fail::new("no run"));
     };
     assert!(rt; reply.kind == Kind::Plan);
@@ -155,7 +155,7 @@ fn a_bound_that_knows(rt: HostRuntime) -> Result<(), Fail> {
     assert!(rt; work_out::<Two, Minutes>(&task, 255, &mut pairs).is_ok());
     let bound = Pair::of(&task, 255, &pairs);
     let mut table = [blank(); 4];
-    let mut told = [Told::Refused(Refusal::Misfit)];
+    let mut told = [Err(Refusal::Misfit)];
     let _ = queue(
         task,
         &bound,

@@ -1,19 +1,20 @@
-use Rattle.std.proofs.Common.{◌<◌, arith}
+use Rattle.std.proofs.Common.{arith}
 use Rattle.std.proofs.lemmas.Result.{err_from_is_err_and}
 use Rattle.records.specs.Openings.{problem_of}
-use Rattle.records.proofs.Steps.{all_opened, shut_grown}
+use Rattle.records.specs.Tables.{recs_of, room_of}
+use Rattle.records.proofs.Growing.{grown_on}
+use Rattle.records.proofs.Steps.{all_opened}
 use Rattle.records.proofs.opening.open.Goals as goal
 
-pub returns-in_err-count : goal.returns-in_err-count
-returns-in_err-count g c =
+pub returns-in_err-take_moves : goal.returns-in_err-take_moves
+returns-in_err-take_moves g c =
     let p = err_from_is_err_and c.from_residual.result c.from_residual.ensures.1 in
-    rw (p.1, p.2) (record { grows = c.in_err-count.ensures.grows; opened = c.in_err-count.ensures.taken })
+    rw p.1 (record { grown = c.in_err-take_moves.ensures.grown; opened = λ less. c.in_err-take_moves.ensures.taken })
 
 pub returns : goal.returns
 returns g c =
-    let grown = c.in_ok-count.ensures.grows in
-    let less : c.args.choice.now.number < c.in_ok-count.count = omega (arith, c.requires.choice, grown.more) in
+    let took = c.in_ok-take_moves.ensures in
     record {
-      grows = shut_grown less grown c.shut.ensures;
-      opened = all_opened (problem_of g.V.Tally g.B.Bound c.args.task.now c.args.bound.now c.args.room) c.args.table.now c.args.count _ _ less c.in_ok-count.ensures.taken c.shut.ensures;
+      grown = grown_on _ _ _ took.grown c.shut.ensures.grown;
+      opened = λ less. all_opened _ _ _ _ took.taken (c.shut.ensures.shut (omega (arith, less, took.grown.more)));
     }

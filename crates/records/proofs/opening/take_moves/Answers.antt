@@ -1,52 +1,56 @@
-use Rattle.std.proofs.Common.{ℕ, ◌≤◌, List, length, sym, refl, ◌∙◌, ⊎_elim, arith}
-use Rattle.std.proofs.lemmas.Bool.{cases_lt}
+use Rattle.std.proofs.Common.{length, sym, ap, ◌∙◌, arith}
 use Rattle.std.proofs.lemmas.Result.{err_from_is_err_and}
-use Rattle.tasks.specs.Tasks.{moves_of}
-use Rattle.tasks.specs.declared.moves.Move.{Move}
-use Rattle.tasks.specs.Places.{At}
-use Rattle.tasks.proofs.Checks.{few_moves_of, no_move}
-use Rattle.tasks.proofs.Places.{at_get}
-use Rattle.theory.specs.Openings.{not_regressing, passed_over}
-use Rattle.records.proofs.Steps.{none_taken, one_passed, one_led, all_taken, no_room}
+use Rattle.tasks.proofs.Checks.{few_moves_of}
+use Rattle.theory.specs.Openings.{none_yet, not_regressing, passed_over}
+use Rattle.records.proofs.Growing.{grown_none, grown_on}
+use Rattle.records.proofs.Steps.{move_here, one_taken, one_led, all_taken, no_room}
 use Rattle.records.proofs.opening.take_moves.Goals as goal
 
--- where there is no move of a number, there are at most that many
-no_more : (moves : List Move) (k : ℕ) → ((m : Move) → At moves k m → ⊥) → length moves ≤ k
-no_more moves k none = ⊎_elim (λ l. absurd (none _ (at_get moves k no_move l))) (λ l. l) (cases_lt k (length moves))
-
 pub loop-number-init : goal.loop-number-init
-loop-number-init g c = none_taken _ _ _ _ _ c.requires.count
+loop-number-init g c = record { grown = grown_none _; taken = none_yet }
 
-pub returns-in_default : goal.returns-in_default
-returns-in_default g c = record {
-  grows = c.loop-number.invariant.1;
-  taken = all_taken _ _ _ _ _ c.loop-number.invariant (no_more (moves_of c.args.task.now) c.loop-number.number c.in_default.ensures);
-}
-
-pub loop-number-preserved-in_default-regress : goal.loop-number-preserved-in_default-regress
-loop-number-preserved-in_default-regress g c =
-    one_passed _ _ _ _ _ c.loop-number.invariant c.in-Some.ensures (not_regressing c.in_default-regress.ensures)
+pub loop-number-preserved-in_default : goal.loop-number-preserved-in_default
+loop-number-preserved-in_default g c =
+    let so = c.loop-number.invariant in
+    let here = move_here c.moves-m-items.ensures c.loop-number-test.true in
+    record { grown = so.grown; taken = one_taken _ _ _ _ so.taken here (not_regressing c.in_default.ensures) }
 
 pub loop-number-preserved-in_default-estimate : goal.loop-number-preserved-in_default-estimate
 loop-number-preserved-in_default-estimate g c =
-    one_passed _ _ _ _ _ c.loop-number.invariant c.in-Some.ensures (passed_over c.in-Some-regress.ensures (sym c.estimate.ensures ∙ c.in_default-estimate.is))
+    let so = c.loop-number.invariant in
+    let here = move_here c.moves-m-items.ensures c.loop-number-test.true in
+    record { grown = so.grown; taken = one_taken _ _ _ _ so.taken here (passed_over c.in-Some.ensures (sym c.estimate.ensures ∙ c.in_default-estimate.is)) }
 
-pub returns-in_err-next : goal.returns-in_err-next
-returns-in_err-next g c =
-    let end =
-    no_room _ _ _ _ _ c.loop-number.invariant c.in-Some.ensures c.in-Some-regress.ensures (sym c.estimate.ensures ∙ c.in-Some-estimate.is)
-    c.in_err-next.field-0.0 c.requires.room c.child.ensures (λ lead is. c.in_err-next.ensures _ _ _ _ _ _ _ refl lead is) in
+pub overflow_cast-number : goal.overflow_cast-number
+overflow_cast-number g c = omega (arith, few_moves_of c.args.task.now, ap length c.moves-m-items.ensures, c.loop-number-test.true)
+
+pub returns-in_err-enter : goal.returns-in_err-enter
+returns-in_err-enter g c =
+    let so = c.loop-number.invariant in
+    let new = c.in_err-enter.ensures in
+    let here = move_here c.moves-m-items.ensures c.loop-number-test.true in
     let p = err_from_is_err_and c.from_residual.result c.from_residual.ensures.1 in
-    rw (p.1, p.2) (record { grows = end.1; taken = end.0 })
+    rw p.1 (record {
+      grown = grown_on _ _ _ so.grown new.grown;
+      taken = no_room _ _ _ _ so.taken here c.in-Some.ensures (sym c.estimate.ensures ∙ c.in-Some-estimate.is)
+          c.child.ensures (λ lead is. new.entered _ _ _ _ _ _ _ (sym so.grown.room) lead is);
+    })
 
 pub loop-number-preserved : goal.loop-number-preserved
 loop-number-preserved g c =
-    one_led _ _ _ _ _ c.loop-number.invariant c.in-Some.ensures c.in-Some-regress.ensures (sym c.estimate.ensures ∙ c.in-Some-estimate.is)
-    c.child.ensures (λ lead is. c.in_ok-next.ensures _ _ _ _ _ _ _ refl lead is)
+    let so = c.loop-number.invariant in
+    let new = c.in_ok-enter.ensures in
+    let here = move_here c.moves-m-items.ensures c.loop-number-test.true in
+    record {
+      grown = grown_on _ _ _ so.grown new.grown;
+      taken = one_led _ _ _ _ so.taken here c.in-Some.ensures (sym c.estimate.ensures ∙ c.in-Some-estimate.is)
+          c.child.ensures (λ lead is. new.entered _ _ _ _ _ _ _ (sym so.grown.room) lead is);
+    }
 
 pub returns : goal.returns
-returns g c = record {
-  grows = c.loop-number.invariant.1;
-  taken = all_taken _ _ _ _ _ c.loop-number.invariant
-      (omega (arith, c.loop-number-test.false, few_moves_of c.args.task.now));
-}
+returns g c =
+    let so = c.loop-number.invariant in
+    record {
+      grown = so.grown;
+      taken = all_taken _ _ _ _ so.taken (omega (arith, c.loop-number-test.false, ap length c.moves-m-items.ensures));
+    }

@@ -1,85 +1,59 @@
-use Rattle.std.proofs.Common.{◌<◌, sym, refl, arith, leb-false, leb-true}
+use Rattle.std.proofs.Common.{sym, refl, subst, arith, leb-false, leb-true}
 use Rattle.tasks.proofs.Places.{at_less}
-use Rattle.records.proofs.Places.{take_length}
-use Rattle.records.proofs.Entering.{as_it_was}
-use Rattle.records.proofs.Steps.{grown_on}
+use Rattle.theory.specs.Openings.{Opens, Overflows}
+use Rattle.records.specs.Openings.{problem_of}
+use Rattle.records.specs.Tables.{recs_of}
+use Rattle.records.proofs.Growing.{grown_none, grown_on}
 use Rattle.runs.proofs.Carrying.{is_not, nothing_yet, one_opened, none_left, plan_found, grant_used, no_room}
 use Rattle.runs.proofs.running.go_on.Goals as goal
 
 pub loop-first-init : goal.loop-first-init
-loop-first-init g c = (as_it_was c.requires.count, omega arith, nothing_yet _ _ _)
+loop-first-init g c = record { grown = grown_none _; granted = omega arith; carried = nothing_yet _ _ _ }
 
-pub returns-in_default : goal.returns-in_default
-returns-in_default g c =
-    let inv = c.loop-first.invariant in
-    rw c.ran_out.ensures (record {
-      grown = inv.0;
-      inside = tt;
-      ran = λ known. record { runs = none_left _ _ _ inv.2 c.in_default.ensures; sane = ∣ tt ∣₁ };
+pub returns-then-arrives-clause-inside : goal.returns-then-arrives-clause-inside
+returns-then-arrives-clause-inside g c = rw c.arrived.ensures (at_less c.in-Some.ensures.at)
+
+pub returns-then-arrives-clause-ran : goal.returns-then-arrives-clause-ran
+returns-then-arrives-clause-ran g c = rw c.arrived.ensures (λ known.
+    let both = plan_found _ _ _ c.loop-first.invariant.carried c.in-Some.ensures (c.if-arrives.ensures.0 refl) c.trail_length.ensures known in
+    record { runs = both.0; sane = both.1 })
+
+pub returns-then-is_used_up-clause-ran : goal.returns-then-is_used_up-clause-ran
+returns-then-is_used_up-clause-ran g c =
+    let so = c.loop-first.invariant in
+    rw c.paused.ensures (λ known. record {
+      runs = grant_used _ _ _ so.carried c.in-Some.ensures (is_not c.if-arrives.ensures)
+          (omega (arith, so.granted, leb-true _ _ (sym c.if-is_used_up.ensures)));
+      sane = so.carried.threads known;
     })
 
-pub returns-then-arrives : goal.returns-then-arrives
-returns-then-arrives g c =
-    let inv = c.loop-first.invariant in
-    let chosen = c.in-Some.ensures in
-    let size = take_length c.loop-first.table c.loop-first.next (omega (arith, inv.0.fits, c.requires.room, c.loop-first.auto.table)) in
-    let less : c.in-Some.first.number < c.loop-first.next = omega (arith, at_less chosen.at, size) in
-    rw c.arrived.ensures (record {
-      grown = inv.0;
-      inside = less;
-      ran = λ known. (let both = plan_found _ _ _ inv.2 chosen (c.if-arrives.ensures.0 refl)
-          (λ l t h. c.trail_length-length.ensures l t (omega (arith, h, size))) known in record { runs = both.0; sane = both.1 });
-    })
+pub returns-in-Err-clause-grown : goal.returns-in-Err-clause-grown
+returns-in-Err-clause-grown g c = grown_on _ _ _ c.loop-first.invariant.grown c.in-Err.ensures.grown
 
-pub returns-then-is_used_up : goal.returns-then-is_used_up
-returns-then-is_used_up g c =
-    let inv = c.loop-first.invariant in
-    rw c.paused.ensures (record {
-      grown = inv.0;
-      inside = tt;
-      ran = λ known. record {
-        runs = grant_used _ _ _ inv.2 c.in-Some.ensures (is_not c.if-arrives.ensures)
-            (omega (arith, inv.1, leb-true _ _ (sym c.if-is_used_up.ensures)));
-        sane = inv.2.threads known;
-      };
-    })
+pub returns-in-Err-clause-inside : goal.returns-in-Err-clause-inside
+returns-in-Err-clause-inside g c =
+    rw c.filled.ensures (omega (arith, at_less c.in-Some.ensures.at, c.in-Err.ensures.grown.more))
 
-pub open-requires : goal.open-requires
-open-requires g c =
-    let inv = c.loop-first.invariant in
-    let size = take_length c.loop-first.table c.loop-first.next (omega (arith, inv.0.fits, c.requires.room, c.loop-first.auto.table)) in
-    record {
-      count = inv.0.fits;
-      room = omega (arith, c.requires.room, c.loop-first.auto.table);
-      choice = omega (arith, at_less c.in-Some.ensures.at, size);
-    }
-
-pub returns-in-Err : goal.returns-in-Err
-returns-in-Err g c =
-    let inv = c.loop-first.invariant in
-    let chosen = c.in-Some.ensures in
-    let full = c.in-Err.ensures in
-    let size = take_length c.loop-first.table c.loop-first.next (omega (arith, inv.0.fits, c.requires.room, c.loop-first.auto.table)) in
-    let less : c.in-Some.first.number < c.in-Err.full.count = omega (arith, at_less chosen.at, size, full.grows.more) in
-    rw c.filled.ensures (record {
-      grown = grown_on inv.0 full.grows;
-      inside = less;
-      ran = λ known. record {
-        runs = no_room _ _ _ inv.2 chosen (is_not c.if-arrives.ensures) (leb-false _ _ (sym c.if-is_used_up.ensures))
-            full.opened;
-        sane = ∣ tt ∣₁;
-      };
-    })
+pub returns-in-Err-clause-ran : goal.returns-in-Err-clause-ran
+returns-in-Err-clause-ran g c = rw c.filled.ensures (λ known. record {
+    runs = no_room _ _ _ c.loop-first.invariant.carried c.in-Some.ensures (is_not c.if-arrives.ensures)
+        (leb-false _ _ (sym c.if-is_used_up.ensures)) (subst (λ n. Overflows (problem_of g.V.Tally g.B.Bound c.args.task.now c.args.bound.now n) (recs_of c.loop-first.records) c.in-Some.first.number c.in-Some.first.row
+        (recs_of c.open.new.records)) c.loop-first.invariant.grown.room (c.in-Err.ensures.opened (at_less c.in-Some.ensures.at)));
+    sane = ∣ tt ∣₁;
+  })
 
 pub loop-first-preserved : goal.loop-first-preserved
 loop-first-preserved g c =
-    let inv = c.loop-first.invariant in
-    let done = c.in-Ok.ensures in (
-      grown_on inv.0 done.grows,
-      omega (arith, leb-false _ _ (sym c.if-is_used_up.ensures)),
-      one_opened _ _ _ inv.2 (record { lawful = g.met.V.Tally.lawful }) c.in-Some.ensures
-          (is_not c.if-arrives.ensures) done.opened (leb-false _ _ (sym c.if-is_used_up.ensures)),
-    )
+    let so = c.loop-first.invariant in
+    let done = c.in-Ok.ensures in
+    let less = leb-false _ _ (sym c.if-is_used_up.ensures) in
+    record {
+      grown = grown_on _ _ _ so.grown done.grown;
+      granted = omega (arith, less);
+      carried = one_opened _ _ _ so.carried (record { lawful = g.met.V.Tally.lawful }) c.in-Some.ensures (is_not c.if-arrives.ensures)
+          (subst (λ n. Opens (problem_of g.V.Tally g.B.Bound c.args.task.now c.args.bound.now n) (recs_of c.loop-first.records) c.in-Some.first.number c.in-Some.first.row
+          (recs_of c.open.new.records)) so.grown.room (done.opened (at_less c.in-Some.ensures.at))) less;
+    }
 
-pub overflow_add-opened : goal.overflow_add-opened
-overflow_add-opened g c = omega (arith, leb-false _ _ (sym c.if-is_used_up.ensures))
+pub returns-clause-ran : goal.returns-clause-ran
+returns-clause-ran g c = rw c.ran_out.ensures (λ known. record { runs = none_left _ _ _ c.loop-first.invariant.carried c.in_default.ensures; sane = ∣ tt ∣₁ })

@@ -1,10 +1,5 @@
 use Rattle.theory.specs.Runs.{again}
-use Rattle.records.proofs.Entering.{as_it_was}
 use Rattle.runs.proofs.running.run.Goals as goal
 
-pub returns-in-Some : goal.returns-in-Some
-returns-in-Some g c = record {
-  grown = as_it_was c.requires.count;
-  inside = c.requires.inside;
-  ran = λ known. record { runs = again (c.in-Some.ensures known _); sane = known };
-}
+pub returns-in-Some-clause-ran : goal.returns-in-Some-clause-ran
+returns-in-Some-clause-ran g c = record { runs = again (c.in-Some.ensures _); sane = c.args.holding.now.traced }
