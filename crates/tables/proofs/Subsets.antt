@@ -142,30 +142,34 @@ two_of_few s start few out = from_list few.listed few.short few.whole
 abbrev pub Gone : FactSet → FactSet → ℕ → Type 0
 Gone s left f = T (has s f) × (T (has left f) → ⊥)
 
-module _ (s left after : FactSet) (x : ℕ) (within : Within left s) (next : Next left (Some x) after) where
-  pub next_here : T (has s x)
-  next_here = within x next.0
+-- what is gone after x has come, in a loop over a set
+pub record Walked (s left after : FactSet) (x : ℕ) : Type 0 where
+  pub here : T (has s x)
+  pub within : Within after s
+  pub more : (f : ℕ) → Gone s after f → Gone s left f ⊎ (f ≡ x)
+  pub still : (f : ℕ) → Gone s left f → Gone s after f
+  pub now : (f : ℕ) → f ≡ x → Gone s after f
 
-  pub next_within : Within after s
-  next_within f h = within f (and_left (has left f) (not (eqb f x)) (subst T (next.2 f) h))
-
-  pub gone_more : (f : ℕ) → Gone s after f → Gone s left f ⊎ (f ≡ x)
-  gone_more f gone = ⊎_elim
+pub walked : {s left after : FactSet} {x : ℕ} → Within left s → Next left (Some x) after → Walked s left after x
+walked {s} {left} {after} {x} within next = record {
+  here = within x next.0;
+  within = λ f h. within f (and_left (has left f) (not (eqb f x)) (subst T (next.2 f) h));
+  more = λ f gone. ⊎_elim
       (λ h. ⊎_elim (λ e. inr (eqb_is f x (from_true e)))
       (λ e. absurd (gone.1 (subst T (sym (next.2 f)) (and_both (has left f) (not (eqb f x)) (from_true h) (not_of (eqb f x) (λ t. not_both t e))))))
       (cases_Bool (eqb f x)))
-      (λ h. inl (gone.0, λ t. not_both t h)) (cases_Bool (has left f))
-
-  pub gone_still : (f : ℕ) → Gone s left f → Gone s after f
-  gone_still f gone = (gone.0, λ h. gone.1 (and_left (has left f) (not (eqb f x)) (subst T (next.2 f) h)))
-
-  pub gone_now : Gone s after x
-  gone_now = (next_here, λ h. not_true (eqb x x) (and_right (has left x) (not (eqb x x)) (subst T (next.2 x) h)) (eqb_same x))
+      (λ h. inl (gone.0, λ t. not_both t h)) (cases_Bool (has left f));
+  still = λ f gone. (gone.0, λ h. gone.1 (and_left (has left f) (not (eqb f x)) (subst T (next.2 f) h)));
+  now = λ f e. subst (Gone s after) (sym e) (within x next.0, λ h. not_true (eqb x x) (and_right (has left x) (not (eqb x x)) (subst T (next.2 x) h)) (eqb_same x));
+}
 
 -- when nothing is to come, all are gone
-module _ (s all left : FactSet) (is : all ≡ s) where
-  pub gone_in : (f : ℕ) → Gone all left f → T (has s f)
-  gone_in f gone = subst (λ x. T (has x f)) is gone.0
+pub record Over (s all left : FactSet) : Type 0 where
+  pub only : (f : ℕ) → Gone all left f → T (has s f)
+  pub whole : (f : ℕ) → T (has s f) → Gone all left f
 
-  pub gone_all : ((f : ℕ) → has left f ≡ false) → (f : ℕ) → T (has s f) → Gone all left f
-  gone_all none f h = (subst (λ x. T (has x f)) (sym is) h, λ l. not_both l (none f))
+pub over : {s all left : FactSet} → all ≡ s → ((f : ℕ) → has left f ≡ false) → Over s all left
+over {s} {all} {left} is none = record {
+  only = λ f gone. subst (λ x. T (has x f)) is gone.0;
+  whole = λ f h. (subst (λ x. T (has x f)) (sym is) h, λ l. not_both l (none f));
+}

@@ -36,6 +36,7 @@ pub trait Layout<V: Tally> {
         ensures { result ≡ estimate_by (net (setting_in places.now.origin)) places.now.table.now set };
 
     // Lowers what the move makes, where its needs have the place just settled; at first, all of that.
+    // The table comes bare: a struct whose ghost field counts the places of a layout cannot be passed to that layout's own functions.
     fn take(origin: &Origin<'_>, m: &Move, settled: Option<Self::Place>, table: &mut [Estimate<V>])
         requires { length table.old ≡ (net (setting_in origin.now)).count }
         ensures { Takes V.Tally (net (setting_in origin.now)) m.now settled table.old table.new };

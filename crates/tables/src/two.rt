@@ -163,6 +163,7 @@ impl<V: Tally> Places<'_, '_, V> {
         requires { Top V.Tally (λ k. T (has m.now.needs k.0) × T (has m.now.needs k.1)) (place_of (pairs V.Tally (setting_in self.now.origin)) self.now.table.now) base }
         ensures { result ≡ every self.now.origin.facts (keeps_beside V.Tally (setting_in self.now.origin) (place_of (pairs V.Tally (setting_in self.now.origin)) self.now.table.now) m.now) }
     {
+        // a loop, since `all` over a range leaves the clause open
         for r in 0..self.origin.facts {
             if !self.keeps_beside(m, base, r) {
                 return false;
@@ -176,6 +177,7 @@ impl<V: Tally> Places<'_, '_, V> {
         ensures { result ≡ every self.now.origin.facts (agrees_at V.Tally (place_of (pairs V.Tally (setting_in self.now.origin)) self.now.table.now) p) }
     {
         let single = self.pair(p, p);
+        // a loop, since `all` over a range leaves the clause open
         for q in 0..self.origin.facts {
             let pair = self.pair(p, q);
             if !(single.at_most(pair) & pair.at_most(self.pair(q, p))) {
@@ -189,6 +191,7 @@ impl<V: Tally> Places<'_, '_, V> {
     fn agrees(&self) -> bool
         ensures { result ≡ every self.now.origin.facts (λ p. every self.now.origin.facts (agrees_at V.Tally (place_of (pairs V.Tally (setting_in self.now.origin)) self.now.table.now) p)) }
     {
+        // a loop, since `all` over a range leaves the clause open
         for p in 0..self.origin.facts {
             if !self.row_agrees(p) {
                 return false;

@@ -1,5 +1,5 @@
 -- The tables of the small tasks.
-use Rattle.std.proofs.Common.{◌≡◌, ℕ, ◌<◌, true, T, sym, refl, ◌∙◌, subst, lit<, None, Some}
+use Rattle.std.proofs.Common.{◌≡◌, ℕ, ◌<◌, true, T, sym, refl, ◌∙◌, subst, lit<, lit≤, None, Some}
 use Rattle.facts.specs.Sets.{has}
 use Rattle.facts.specs.declared.sets.FactSet.{FactSet}
 use Rattle.facts.proofs.Tests.{not_both}
@@ -54,7 +54,7 @@ startless_known : Known (setting_of startless every_group)
 startless_known = known startless every_group
 
 circle_known : Known (setting_of circle every_group)
-circle_known = record { start = λ f h. absurd (not_both h (bit_none f)); makes = λ j m at f h. made at f h }
+circle_known = record { few = lit≤ tt; start = λ f h. absurd (not_both h (bit_none f)); makes = λ j m at f h. made at f h }
   where
     made : {j : ℕ} {m : Move} → At (moves_of circle) j m → (f : ℕ) → T (has m.makes f) → f < 2
     made here f h = bit_inside 2 2 f (lit< tt) h
