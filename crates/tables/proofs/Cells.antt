@@ -1,8 +1,7 @@
 -- The places of a table in its list.
-use Rattle.std.proofs.Common.{◌≡◌, ℕ, zero, suc, ◌+◌, ◌<◌, ◌≤◌, Bool, true, false, cond, ◌≢◌, ◌⊎◌, List, [], ◌∷◌, ◌++◌, length, get_or, set, replicate, Some, None, Option, sym, refl, ap, ◌∙◌, subst, inl, inr, ⊎_elim, arith, below_more}
+use Rattle.std.proofs.Common.{◌≡◌, ℕ, zero, suc, ◌+◌, ◌<◌, ◌≤◌, Bool, true, false, cond, ◌≢◌, ◌⊎◌, List, [], ◌∷◌, ◌++◌, length, get_or, set, replicate, Some, None, Option, sym, refl, ap, ◌∙◌, subst, inl, inr, ⊎_elim, arith}
 use Rattle.std.proofs.lemmas.List.{get_or-set_same, get_or-set_other}
 use Rattle.std.proofs.lemmas.Bool.{cases_eq, cond-true, cond-false, cases_Bool}
-use Rattle.std.specs.Option.{option_map}
 use Rattle.facts.proofs.Tests.{from_true, to_true}
 use Rattle.costs.specs.Choices.{Smaller}
 use Rattle.costs.specs.Estimates.{not_above}
@@ -12,9 +11,8 @@ use Rattle.bounds.specs.Sound.{NotAbove}
 use Rattle.tables.specs.Equation.{Setting}
 use Rattle.tables.specs.Laid.{Numbered}
 use Rattle.tables.specs.Nets.{Net, Present, read, place_of}
-use Rattle.tables.specs.Settling.{Lowers, LowersAt, Picks, Lesser, least_of}
+use Rattle.tables.specs.Settling.{Lowers, LowersAt}
 use Rattle.tables.proofs.Falls.{lowers_at}
-use Rattle.tables.proofs.Order as order
 use Rattle.tables.proofs.Order.{LawsOf}
 use Rattle.tables.proofs.Solutions.{present_or_not}
 
@@ -75,40 +73,6 @@ pub record Chosen {V : Type 0} (tally : Ghosts V) (done : List Bool) (table : Li
 abbrev pub Best : {V : Type 0} → Ghosts V → List Bool → List (Estimate V) → ℕ → Option (ℕ × V) → Type 0
 Best tally done table i None = (w : ℕ) → w < i → get_or done w false ≡ false → get_or table w None ≡ None
 Best tally done table i (Some k) = Chosen tally done table i k.0 k.1
-
-module _ {V : Type 0} {tally : Ghosts V} (laws : LawsOf tally) (done : List Bool) (table : List (Estimate V)) (i : ℕ) where
-  best_passes : (best : Option (ℕ × V)) → Best tally done table i best → (get_or done i false ≡ false → NotAbove tally (least_of best) (get_or table i None)) → Best tally done table (i + 1) best
-  best_passes None low more = below_more _ i low (λ d. order.antisymmetric laws (get_or table i None) None (order.top laws (get_or table i None)) (more d))
-  best_passes (Some k) c more = record { inside = c.inside; undone = c.undone; value = c.value; least = below_more _ i c.least more }
-
-  best_changes : (best : Option (ℕ × V)) → Best tally done table i best → get_or done i false ≡ false → i < length table → (v : V) → get_or table i None ≡ Some v
-      → NotAbove tally (get_or table i None) (least_of best) → Best tally done table (i + 1) (Some (i, v))
-  best_changes best b d l v is less = record {
-    inside = l;
-    undone = d;
-    value = is;
-    least = below_more _ i (λ w h e. subst (λ x. NotAbove tally x (get_or table w None)) is (order.transitive laws (get_or table i None) (least_of best) (get_or table w None) less (low best b w h e))) (λ e. order.same laws (sym is));
-  }
-    where
-      low : (best : Option (ℕ × V)) → Best tally done table i best → (w : ℕ) → w < i → get_or done w false ≡ false → NotAbove tally (least_of best) (get_or table w None)
-      low None b w h e = order.same laws (sym (b w h e))
-      low (Some k) c w h e = c.least w h e
-
-  pub best_more : (best to : Option (ℕ × V)) → Best tally done table i best → get_or done i false ≡ false → i < length table → Lesser tally best i (get_or table i None) to → Best tally done table (i + 1) to
-  best_more best to b d l (inl s) = subst (Best tally done table (i + 1)) (sym s.0) (best_passes best b (λ e. s.1))
-  best_more best to b d l (inr s) = subst (Best tally done table (i + 1)) (sym s.2) (best_changes best b d l s.0 s.1 s.3)
-
-  pub best_skips : (best : Option (ℕ × V)) → Best tally done table i best → (get_or done i false ≡ false → ⊥) → Best tally done table (i + 1) best
-  best_skips best b isdone = best_passes best b (λ d. absurd (isdone d))
-
-pub best_picks : {V : Type 0} (tally : Ghosts V) (done : List Bool) (table : List (Estimate V)) (i : ℕ) → i ≡ length table → (best : Option (ℕ × V)) → Best tally done table i best
-    → Picks tally done table (option_map (λ k. k.0) best)
-best_picks tally done table i end None low = λ v l d. low v (omega arith) d
-best_picks tally done table i end (Some k) c = record {
-  inside = c.inside;
-  undone = c.undone;
-  least = λ v l d. subst (λ x. NotAbove tally x (get_or table v None)) (sym c.value) (c.least v (omega arith) d);
-}
 
 -- how many places are open
 abbrev pub undone : List Bool → ℕ

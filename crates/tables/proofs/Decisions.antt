@@ -2,7 +2,7 @@
 use Rattle.std.proofs.Common.{◌≡◌, ℕ, zero, suc, ◌+◌, ◌<◌, Bool, true, false, ◌&&◌, ◌||◌, T, eqb, List, [], ◌∷◌, Decides, sym, refl, subst, ⊎_elim, arith, eqb→eq}
 use Rattle.std.specs.List.{list_all}
 use Rattle.std.proofs.lemmas.Bool.{cases_eq, cases_Bool}
-use Rattle.facts.proofs.Tests.{from_true, to_true, not_both, same_tests, and_left, and_right, and_both}
+use Rattle.facts.proofs.Tests.{from_true, to_true, not_both, and_left, and_right, and_both}
 use Rattle.tasks.specs.Places.{At, here, there}
 use Rattle.tasks.specs.declared.moves.Move.{Move}
 use Rattle.costs.specs.Estimates.{not_above}
@@ -21,9 +21,6 @@ decides_test b = ((λ e. from_true e), λ h. to_true h)
 
 pub decides_like : {P Q : Type 0} {b : Bool} → (P → Q) → (Q → P) → Decides b P → Decides b Q
 decides_like to from d = ((λ e. to (d.0 e)), λ q. d.1 (from q))
-
-pub decides_same : {P : Type 0} (a b : Bool) → Decides a P → Decides b P → a ≡ b
-decides_same a b d e = same_tests (λ h. from_true (e.1 (d.0 (to_true h)))) (λ h. from_true (d.1 (e.0 (to_true h))))
 
 pub decides_and : {P Q : Type 0} (a b : Bool) → Decides a P → Decides b Q → Decides (a && b) (P × Q)
 decides_and a b d e =

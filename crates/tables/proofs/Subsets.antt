@@ -144,7 +144,6 @@ Gone s left f = T (has s f) × (T (has left f) → ⊥)
 
 -- what is gone after x has come, in a loop over a set
 pub record Walked (s left after : FactSet) (x : ℕ) : Type 0 where
-  pub here : T (has s x)
   pub within : Within after s
   pub more : (f : ℕ) → Gone s after f → Gone s left f ⊎ (f ≡ x)
   pub still : (f : ℕ) → Gone s left f → Gone s after f
@@ -152,7 +151,6 @@ pub record Walked (s left after : FactSet) (x : ℕ) : Type 0 where
 
 pub walked : {s left after : FactSet} {x : ℕ} → Within left s → Next left (Some x) after → Walked s left after x
 walked {s} {left} {after} {x} within next = record {
-  here = within x next.0;
   within = λ f h. within f (and_left (has left f) (not (eqb f x)) (subst T (next.2 f) h));
   more = λ f gone. ⊎_elim
       (λ h. ⊎_elim (λ e. inr (eqb_is f x (from_true e)))

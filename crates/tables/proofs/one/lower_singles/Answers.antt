@@ -1,4 +1,4 @@
-use Rattle.std.proofs.Common.{sym, ap, ◌∙◌, subst, inl, inr, ⊎_elim}
+use Rattle.std.proofs.Common.{ap, ◌∙◌, inl, inr, ⊎_elim}
 use Rattle.tables.proofs.Falls.{lowers_none, lowers_like, lowers_then}
 use Rattle.tables.proofs.Order.{laws_of}
 use Rattle.tables.proofs.Subsets.{walked, over}

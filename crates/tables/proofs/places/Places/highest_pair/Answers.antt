@@ -1,4 +1,4 @@
-use Rattle.std.proofs.Common.{sym, ap, ◌∙◌, subst, inl, inr, ⊎_elim}
+use Rattle.std.proofs.Common.{ap, ◌∙◌, inl, inr, ⊎_elim}
 use Rattle.tables.specs.Nets.{pairs, place_of}
 use Rattle.tables.specs.Origins.{setting_in}
 use Rattle.tables.proofs.Order.{laws_of}

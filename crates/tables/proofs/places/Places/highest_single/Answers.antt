@@ -1,4 +1,4 @@
-use Rattle.std.proofs.Common.{◌≡◌, sym, refl, ap, ◌∙◌, subst}
+use Rattle.std.proofs.Common.{◌≡◌, refl, ap, ◌∙◌}
 use Rattle.tables.specs.Nets.{singles, place_of}
 use Rattle.tables.specs.Origins.{setting_in}
 use Rattle.tables.proofs.Order.{laws_of}

@@ -1,4 +1,4 @@
-use Rattle.std.proofs.Common.{◌≡◌, sym, refl, ap, ◌∙◌, subst, inl, inr, ⊎_elim}
+use Rattle.std.proofs.Common.{◌≡◌, refl, ap, ◌∙◌, inl, inr, ⊎_elim}
 use Rattle.tables.specs.Nets.{pairs, place_of}
 use Rattle.tables.specs.Origins.{setting_in}
 use Rattle.tables.specs.Reading.{Two}
