@@ -20,6 +20,7 @@ pub fn answer_all<V: Tally, B: Bound<Value = V>>(
     ensures served { Serves V.Tally (lent_of B.Bound search.old.task bound.now) calls.now replies.old replies.new list.old list.new search.old search.new }
     ensures lent { search.new.holding.records.table.ghost_name ≡ search.old.holding.records.table.ghost_name }
 {
+    // a zip with `iter_mut` was tried: after it nothing is known of what was written
     for (i, told) in replies.iter_mut().enumerate() {
         let Some(call) = calls.get(i) else {
             return;

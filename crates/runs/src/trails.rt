@@ -56,6 +56,7 @@ fn copy_moves<V: Tally>(rows: &[Record<V>], from: u16, list: &mut [u16])
     ensures { (l : List ℕ) → IsTrail rows.now from l → length l ≤ length list.old → list.new ≡ l ++ drop (length l) list.old }
 {
     let mut trail = Trail { rows, at: from }.take(list.len());
+    // a zip with `iter_mut` was tried: after it nothing is known of what was written
     for place in list.iter_mut() {
         let Some(via) = trail.next() else {
             return;

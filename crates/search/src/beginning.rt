@@ -72,7 +72,7 @@ pub fn first_records<'a, V: Tally, B: Bound<Value = V>>(
     ensures lent { result.table.ghost_name ≡ table.entry.ghost_name }
 {
     let mut records = Records::new(table, 65535);
-    if let Err(_) = made {
+    if made.is_err() {
         return records;
     }
     if let Some(promise) = bound.estimate(task.goal()) {

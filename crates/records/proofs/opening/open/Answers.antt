@@ -1,7 +1,5 @@
 use Rattle.std.proofs.Common.{arith}
 use Rattle.std.proofs.lemmas.Result.{err_from_is_err_and}
-use Rattle.records.specs.Openings.{problem_of}
-use Rattle.records.specs.Tables.{recs_of, room_of}
 use Rattle.records.proofs.Growing.{grown_on}
 use Rattle.records.proofs.Steps.{all_opened}
 use Rattle.records.proofs.opening.open.Goals as goal

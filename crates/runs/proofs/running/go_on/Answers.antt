@@ -37,8 +37,7 @@ returns-in-Err-clause-inside g c =
 pub returns-in-Err-clause-ran : goal.returns-in-Err-clause-ran
 returns-in-Err-clause-ran g c = rw c.filled.ensures (λ known. record {
     runs = no_room _ _ _ c.loop-first.invariant.carried c.in-Some.ensures (is_not c.if-arrives.ensures)
-        (leb-false _ _ (sym c.if-is_used_up.ensures)) (subst (λ n. Overflows (problem_of g.V.Tally g.B.Bound c.args.task.now c.args.bound.now n) (recs_of c.loop-first.records) c.in-Some.first.number c.in-Some.first.row
-        (recs_of c.open.new.records)) c.loop-first.invariant.grown.room (c.in-Err.ensures.opened (at_less c.in-Some.ensures.at)));
+        (leb-false _ _ (sym c.if-is_used_up.ensures)) (rw c.loop-first.invariant.grown.room at (c.in-Err.ensures.opened (at_less c.in-Some.ensures.at)));
     sane = ∣ tt ∣₁;
   })
 
@@ -51,8 +50,7 @@ loop-first-preserved g c =
       grown = grown_on _ _ _ so.grown done.grown;
       granted = omega (arith, less);
       carried = one_opened _ _ _ so.carried (record { lawful = g.met.V.Tally.lawful }) c.in-Some.ensures (is_not c.if-arrives.ensures)
-          (subst (λ n. Opens (problem_of g.V.Tally g.B.Bound c.args.task.now c.args.bound.now n) (recs_of c.loop-first.records) c.in-Some.first.number c.in-Some.first.row
-          (recs_of c.open.new.records)) so.grown.room (done.opened (at_less c.in-Some.ensures.at))) less;
+          (rw so.grown.room at (done.opened (at_less c.in-Some.ensures.at))) less;
     }
 
 pub returns-clause-ran : goal.returns-clause-ran

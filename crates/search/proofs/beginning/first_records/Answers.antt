@@ -15,8 +15,8 @@ returns-in-Some-clause-first g c e some =
     let added = first_added (recs_of c.add.new.self) c.goal_record.result c.add.result c.add.ensures.added new.none (omega (arith, new.room, some)) in
     subst (First P) (sym added) (goal_first P hope is)
 
-pub returns-in_default-estimate-clause-first : goal.returns-in_default-estimate-clause-first
-returns-in_default-estimate-clause-first g c e some =
+pub returns-in_default-clause-first : goal.returns-in_default-clause-first
+returns-in_default-clause-first g c e some =
     let P = problem_of g.V.Tally g.B.Bound c.args.task.now c.args.bound.now (length c.args.table.now) in
-    let never = sym (c.estimate.ensures ∙ ap (λ s. g.B.Bound.estimated c.args.bound.now s) c.goal.ensures) ∙ c.in_default-estimate.is in
+    let never = sym (c.estimate.ensures ∙ ap (λ s. g.B.Bound.estimated c.args.bound.now s) c.goal.ensures) ∙ c.in_default.is in
     subst (First P) (sym c.new-records.ensures.none) (no_hope never)

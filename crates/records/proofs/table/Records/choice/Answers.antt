@@ -1,6 +1,6 @@
-use Rattle.std.proofs.Common.{take_all, ◌∙◌, subst, arith}
+use Rattle.std.proofs.Common.{take_all, ◌∙◌, subst}
 use Rattle.records.proofs.Picks.{Picked, picked_next}
-use Rattle.records.proofs.Places.{at_read, recs_length}
+use Rattle.records.proofs.Places.{at_read}
 use Rattle.records.proofs.table.Records.choice.Goals as goal
 
 pub loop-number-init : goal.loop-number-init

@@ -1,4 +1,4 @@
-use Rattle.std.proofs.Common.{◌≤◌, length, ◌∙◌, subst, subst₂, arith, ap}
+use Rattle.std.proofs.Common.{◌≤◌, length, subst₂, arith, ap}
 use Rattle.tasks.specs.Places.{At}
 use Rattle.records.specs.Tables.{recs_of}
 use Rattle.records.proofs.Places.{at_read}
