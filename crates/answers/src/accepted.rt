@@ -9,6 +9,7 @@ use tasks::Draft;
 use texts::set_text;
 
 // The heading of a draft, as a file has it, and the floor of its goal.
+// No Display: a list is joined on the heap, which `fmt` is not handed.
 pub fn accepted_text(
     heap: Global,
     draft: &Draft<'_>,

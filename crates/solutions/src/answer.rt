@@ -8,6 +8,7 @@ use texts::moves_text;
 use theory::{Kind, Reply};
 
 // What a run tells, with the moves of its plan.
+// No Display: a list is joined on the heap, which `fmt` is not handed.
 pub fn answer_text(
     heap: Global,
     reply: &Reply<Minutes>,
