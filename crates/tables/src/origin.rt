@@ -37,6 +37,13 @@ impl<'a> Origin<'a> {
         ensures told { result ≡ is_same_task (setting_in self.now) task.now }
         ensures exact { IsTrue result ↔ SameTask (setting_in self.now) task.now }
     {
+        self.has_parts_of(task)
+    }
+
+    // The same, as a test of the parts.
+    fn has_parts_of(&self, task: &Task<'_>) -> bool
+        ensures { result ≡ is_same_task (setting_in self.now) task.now }
+    {
         self.facts == task.facts() && self.start == task.start() && self.moves == task.moves()
     }
 
