@@ -1,12 +1,12 @@
 -- A search as it is made.
-use Rattle.std.proofs.Common.{◌≡◌, ℕ, zero, ◌≤◌, List, [], ◌∷◌, ◌++◌, length, Ok, Err, Result, Some, None, sym, refl, ap, ◌∙◌, subst, arith, MatchResult}
+use Rattle.std.proofs.Common.{◌≡◌, ℕ, zero, ◌≤◌, List, [], ◌∷◌, ◌++◌, length, Ok, Err, Result, Some, sym, refl, ap, ◌∙◌, subst, arith, MatchResult}
 use Rattle.tasks.specs.Tasks.{goal_of}
 use Rattle.tasks.proofs.Places.{at_less}
 use Rattle.costs.specs.declared.tally.Tally.{Ghosts}
 use Rattle.theory.specs.Problem.{Problem, Usable, Roomy}
 use Rattle.theory.specs.Promise.{records_of}
-use Rattle.theory.specs.Queue.{kept, holding, Unusable, Makes, no_place, too_many_places, fresh}
-use Rattle.theory.specs.Records.{goal_record, First, goal_waits, no_hope}
+use Rattle.theory.specs.Queue.{kept, Unusable, Makes, no_place, too_many_places, fresh}
+use Rattle.theory.specs.Records.{goal_record, First, goal_waits}
 use Rattle.theory.specs.declared.record.Record.{Record}
 use Rattle.theory.specs.declared.refusal.Refusal.{Refusal}
 use Rattle.theory.specs.declared.reply.End.{End}

@@ -1,4 +1,4 @@
-use Rattle.std.proofs.Common.{◌≡◌, ◌<◌, min, length, sym, refl, ◌∙◌, subst, arith, ltb-false}
+use Rattle.std.proofs.Common.{◌<◌, length, sym, refl, ◌∙◌, arith, ltb-false}
 use Rattle.std.proofs.lemmas.List.{set-get_or}
 use Rattle.tasks.specs.Places.{At}
 use Rattle.tasks.proofs.Places.{at_get}

@@ -1,8 +1,5 @@
-use Rattle.std.proofs.Common.{sym, refl, subst, arith, leb-false, leb-true}
+use Rattle.std.proofs.Common.{sym, refl, arith, leb-false, leb-true}
 use Rattle.tasks.proofs.Places.{at_less}
-use Rattle.theory.specs.Openings.{Opens, Overflows}
-use Rattle.records.specs.Openings.{problem_of}
-use Rattle.records.specs.Tables.{recs_of}
 use Rattle.records.proofs.Growing.{grown_none, grown_on}
 use Rattle.runs.proofs.Carrying.{is_not, nothing_yet, one_opened, none_left, plan_found, grant_used, no_room}
 use Rattle.runs.proofs.running.go_on.Goals as goal
@@ -36,10 +33,10 @@ returns-in-Err-clause-inside g c =
 
 pub returns-in-Err-clause-ran : goal.returns-in-Err-clause-ran
 returns-in-Err-clause-ran g c = rw c.filled.ensures (λ known. record {
-    runs = no_room _ _ _ c.loop-first.invariant.carried c.in-Some.ensures (is_not c.if-arrives.ensures)
-        (leb-false _ _ (sym c.if-is_used_up.ensures)) (rw c.loop-first.invariant.grown.room at (c.in-Err.ensures.opened (at_less c.in-Some.ensures.at)));
-    sane = ∣ tt ∣₁;
-  })
+  runs = no_room _ _ _ c.loop-first.invariant.carried c.in-Some.ensures (is_not c.if-arrives.ensures)
+      (leb-false _ _ (sym c.if-is_used_up.ensures)) (rw c.loop-first.invariant.grown.room at (c.in-Err.ensures.opened (at_less c.in-Some.ensures.at)));
+  sane = ∣ tt ∣₁;
+})
 
 pub loop-first-preserved : goal.loop-first-preserved
 loop-first-preserved g c =

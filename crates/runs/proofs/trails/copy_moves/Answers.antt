@@ -12,9 +12,11 @@ pub loop-place-preserved : goal.loop-place-preserved
 loop-place-preserved g c =
     let inv = c.loop-place.invariant in
     let step = c.in-Some.ensures.steps in
-    let here = subst (λ r. Steps r c.loop-place.trail.iter.at (Some c.in-Some.via) c.next.new.self.iter.at) inv.0 step.0.1 in
-    (step.0.0 ∙ inv.0, omega (arith, inv.1, step.1),
-    copied_more _ _ c.loop-place.list (omega (arith, c.loop-place-test.true, c.loop-place.auto.list)) here inv.2)
+    let here = subst (λ r. Steps r c.loop-place.trail.iter.at (Some c.in-Some.via) c.next.new.self.iter.at) inv.0 step.0.1 in (
+      step.0.0 ∙ inv.0,
+      omega (arith, inv.1, step.1),
+      copied_more _ _ c.loop-place.list (omega (arith, c.loop-place-test.true, c.loop-place.auto.list)) here inv.2,
+    )
 
 pub returns-in_default : goal.returns-in_default
 returns-in_default g c l t h =
