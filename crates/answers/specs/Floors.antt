@@ -3,15 +3,10 @@ use Rattle.std.specs.Prelude.{◌≡◌, ℕ, List, codes, decimal, None, Some}
 use Rattle.facts.specs.declared.sets.FactSet.{FactSet}
 use Rattle.tasks.specs.Tasks.{goal_of}
 use Rattle.tasks.specs.declared.task.Task.{Task}
-use Rattle.costs.specs.Minutes.{no_longer, held, sum}
 use Rattle.costs.specs.Estimates.{Estimate}
+use Rattle.costs.specs.Kinds.{minutes}
 use Rattle.costs.specs.declared.minutes.Minutes.{Minutes}
-use Rattle.costs.specs.declared.tally.Tally.{Ghosts}
 use Rattle.tables.specs.Equation.{setting_of, Greatest}
-
--- minutes as a kind of cost
-abbrev pub minutes : Ghosts Minutes
-minutes = record { at_most = no_longer; nil = held 0; join = sum; charge = λ price group. held price }
 
 -- the floor is the estimate of the goal in the greatest solution at pairs, with these groups counted
 pub record IsFloor (t : Task) (groups : ℕ) (floor : Estimate Minutes) : Type 0 where

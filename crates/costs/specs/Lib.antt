@@ -6,3 +6,4 @@ pub mod Estimates
 pub mod Lists
 pub mod EstimatesLemmas
 pub mod Totals
+pub mod Kinds

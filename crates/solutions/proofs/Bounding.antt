@@ -15,7 +15,7 @@ use Rattle.tables.proofs.Closing.{shares_are_drawn}
 use Rattle.tables.proofs.Keeping.{fits_tells}
 use Rattle.tables.proofs.TwoFacts.{pairs_laid}
 use Rattle.theory.specs.Problem.{Lent}
-use Rattle.solutions.specs.Solutions.{minutes}
+use Rattle.costs.specs.Kinds.{minutes}
 use Rattle.solutions.proofs.Laws.{minutes_laws}
 
 -- what is seen of the bound over a table

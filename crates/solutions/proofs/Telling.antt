@@ -14,7 +14,8 @@ use Rattle.theory.specs.declared.reply.End.TheVariants.{Going, Planned}
 use Rattle.theory.specs.declared.reply.Kind.TheVariants.{Plan}
 use Rattle.theory.specs.declared.reply.Reply.{Reply}
 use Rattle.queues.specs.Calls.{written}
-use Rattle.solutions.specs.Solutions.{minutes, Says, cheapest, no_list, no_room}
+use Rattle.costs.specs.Kinds.{minutes}
+use Rattle.solutions.specs.Solutions.{Says, cheapest, no_list, no_room}
 use Rattle.solutions.proofs.Ended.{Ended, going, planned, exhausted, filled, run_ended}
 
 abbrev pub posed : Task → Lent Minutes → Problem minutes

@@ -10,7 +10,7 @@ use Rattle.tables.specs.Equation.{setting_of}
 use Rattle.tables.specs.Nets.{pairs}
 use Rattle.tables.specs.Worked.{WorksOut, WorkedOut}
 use Rattle.tables.specs.declared.refusal.TableTooShort.{TableTooShort}
-use Rattle.solutions.specs.Solutions.{minutes}
+use Rattle.costs.specs.Kinds.{minutes}
 
 pub worked_out : (t : Task) (groups : ℕ) → (old new : List (Estimate Minutes)) → length old ≡ 4096 → (r : Result ℕ TableTooShort)
     → WorksOut minutes (pairs minutes (setting_of t groups)) old new r → WorkedOut minutes (pairs minutes (setting_of t groups)) new

@@ -5,20 +5,16 @@ use Rattle.tasks.specs.Lists.{Good}
 use Rattle.tasks.specs.Tasks.{moves_of}
 use Rattle.tasks.specs.declared.task.Task.{Task}
 use Rattle.costs.specs.Lists.{Costs}
-use Rattle.costs.specs.Minutes.{no_longer, held, sum}
+use Rattle.costs.specs.Minutes.{no_longer}
 use Rattle.costs.specs.Estimates.{Estimate}
 use Rattle.costs.specs.declared.minutes.Minutes.{Minutes}
-use Rattle.costs.specs.declared.tally.Tally.{Ghosts}
+use Rattle.costs.specs.Kinds.{minutes}
 use Rattle.tables.specs.Equation.{setting_of, Greatest}
 use Rattle.theory.specs.Meets.{MeetsMore}
 use Rattle.theory.specs.Problem.{Lent}
 use Rattle.theory.specs.Queue.{run, read_out, Answer, ran, read, State, asked, Queue}
 use Rattle.theory.specs.declared.reply.Kind.TheVariants.{Plan, NoPlan, Full}
 use Rattle.theory.specs.declared.reply.Reply.{Reply}
-
--- minutes as a kind of cost
-abbrev pub minutes : Ghosts Minutes
-minutes = record { at_most = no_longer; nil = held 0; join = sum; charge = λ price group. held price }
 
 -- no good list of the task takes fewer minutes
 abbrev pub AtLeast : Task → Minutes → Type 0

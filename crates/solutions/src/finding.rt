@@ -2,7 +2,8 @@
 ghost use Rattle.tables.specs.Equation.{setting_of};
 ghost use Rattle.tables.specs.Nets.{pairs as pair_net};
 ghost use Rattle.tables.specs.Worked.{WorkedOut};
-ghost use Rattle.solutions.specs.Solutions.{Solved, minutes};
+ghost use Rattle.costs.specs.Kinds.{minutes};
+ghost use Rattle.solutions.specs.Solutions.{Solved};
 
 use costs::{Estimate, Minutes, Tally};
 use facts::FactSet;

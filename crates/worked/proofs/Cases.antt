@@ -23,7 +23,7 @@ use Rattle.theory.specs.declared.record.Record.{Record}
 use Rattle.theory.specs.declared.reply.End.TheVariants.{Going}
 use Rattle.theory.proofs.Single.{makes_same}
 use Rattle.worked.specs.Cases.{Goes, Made, WorkedCases}
-use Rattle.worked.specs.Costs.{minutes, worst}
+use Rattle.costs.specs.Kinds.{minutes, worst}
 use Rattle.worked.specs.Lending.{blind, every_group, only_group, Table, reading, summed, posing}
 use Rattle.worked.proofs.Laws.{minutes_lawful, minutes_laws, worst_lawful}
 use Rattle.worked.proofs.Only.{Own, goes}

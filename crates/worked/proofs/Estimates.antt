@@ -1,7 +1,5 @@
 -- The estimates of the greatest solution, computed.
-use Rattle.std.proofs.Common.{◌≡◌, ℕ, ◌^◌, ◌<◌, Bool, true, ◌&&◌, ◌||◌, eqb, ltb, Decides, ap, ◌∙◌}
-use Rattle.std.proofs.lemmas.Bool.{ltb-true, lt-ltb}
-use Rattle.facts.specs.Sets.{has}
+use Rattle.std.proofs.Common.{◌≡◌, ℕ, ◌^◌, Bool, true, ◌||◌, eqb, ap, ◌∙◌}
 use Rattle.facts.specs.Words.{bit}
 use Rattle.facts.specs.declared.sets.FactSet.{FactSet}
 use Rattle.facts.proofs.Members.{union, has_union}

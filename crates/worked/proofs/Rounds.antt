@@ -16,7 +16,7 @@ use Rattle.costs.specs.declared.tally.Tally.{Ghosts}
 use Rattle.bounds.specs.Sound.{NotAbove}
 use Rattle.tables.specs.Equation.{Setting}
 use Rattle.tables.specs.Laid.{Shape, Tops}
-use Rattle.tables.specs.Nets.{Net, Present, In}
+use Rattle.tables.specs.Nets.{Net, Present}
 use Rattle.tables.specs.Settling.{Start, Step, via, Under, Backed, unreached, begun, stepped, Sure}
 use Rattle.tables.proofs.Decisions.{decides_and, decides_test}
 use Rattle.tables.proofs.Engine.{est_mono, via_mono_est}

@@ -20,7 +20,7 @@ use Rattle.tables.proofs.Order.{LawsOf}
 use Rattle.tables.proofs.Seen.{known}
 use Rattle.tables.specs.Laid.{Known}
 use Rattle.worked.specs.Cases.{Gives}
-use Rattle.worked.specs.Costs.{minutes, worst}
+use Rattle.costs.specs.Kinds.{minutes, worst}
 use Rattle.worked.specs.Lending.{every_group, only_group, Table}
 use Rattle.theory.specs.Tasks.{set_of, small, startless}
 use Rattle.worked.specs.Tasks.{circle}

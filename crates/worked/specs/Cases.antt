@@ -16,7 +16,7 @@ use Rattle.theory.specs.declared.refusal.Refusal.{Refusal}
 use Rattle.theory.specs.declared.refusal.Refusal.TheVariants.{TableSize, Overdrawn, GrantTooLarge, NotPlanned, ListTooShort}
 use Rattle.theory.specs.declared.reply.End.TheVariants.{Going}
 use Rattle.theory.specs.declared.reply.Kind.TheVariants.{Pending, Plan, NoPlan, Full}
-use Rattle.worked.specs.Costs.{minutes, worst}
+use Rattle.costs.specs.Kinds.{minutes, worst}
 use Rattle.worked.specs.Lending.{blind, every_group, only_group, Table, reading, summed, posing}
 use Rattle.worked.specs.Tasks.{circle}
 

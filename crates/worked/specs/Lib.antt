@@ -1,4 +1,3 @@
-pub mod Costs
 pub mod Tasks
 pub mod Lending
 pub mod Cases

@@ -10,7 +10,8 @@ use Rattle.tables.specs.Equation.{Setting, setting_of}
 use Rattle.tables.specs.Nets.{pairs, estimate_by}
 use Rattle.tables.specs.Worked.{WorksOut}
 use Rattle.tables.specs.declared.refusal.TableTooShort.{TableTooShort}
-use Rattle.answers.specs.Floors.{minutes, IsFloor}
+use Rattle.costs.specs.Kinds.{minutes}
+use Rattle.answers.specs.Floors.{IsFloor}
 use Rattle.answers.proofs.floors.goal_estimate.Goals as goal
 
 -- a table of 4,096 places is worked out, and its estimate of the goal is the floor
