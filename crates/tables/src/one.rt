@@ -2,7 +2,7 @@
 ghost use Rattle.std.specs.Prelude.{◌≡◌, ◌<◌, T, length};
 ghost use Rattle.facts.specs.Sets.{has};
 ghost use Rattle.tables.specs.Nets.{singles, Present, place_of};
-ghost use Rattle.tables.specs.Origins.{setting_in};
+ghost use Rattle.tables.specs.Origins.{setting_in, single_values};
 ghost use Rattle.tables.specs.Reading.{Top};
 ghost use Rattle.tables.specs.Settling.{Lowers, Takes, touches};
 
@@ -73,7 +73,7 @@ impl<V: Tally> Layout<V> for One {
 impl<V: Tally> Places<'_, '_, V> {
     // The place of fact p; a missing place is never.
     fn single(&self, p: u8) -> Estimate<V>
-        ensures { result ≡ place_of (singles V.Tally (setting_in self.now.origin)) self.now.table.now p }
+        ensures { result ≡ single_values V.Tally self.now p }
     {
         if p < self.origin.facts {
             self.at(usize::from(p))
@@ -84,7 +84,7 @@ impl<V: Tally> Places<'_, '_, V> {
 
     // The highest of the places of the set's facts, nil for the empty set.
     fn highest_single(&self, set: FactSet) -> Estimate<V>
-        ensures { Top V.Tally (λ p. T (has set p)) (place_of (singles V.Tally (setting_in self.now.origin)) self.now.table.now) result }
+        ensures { Top V.Tally (λ p. T (has set p)) (single_values V.Tally self.now) result }
     {
         let mut top = Estimate::<V>::nil();
         for fact in set.iter() {

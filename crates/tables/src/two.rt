@@ -2,7 +2,7 @@
 ghost use Rattle.std.specs.Prelude.{◌≡◌, ◌↔◌, ℕ, ◌*◌, ◌+◌, ◌<◌, ◌≤◌, ◌&&◌, T, IsTrue, ◌⊎◌, length};
 ghost use Rattle.facts.specs.Sets.{has};
 ghost use Rattle.tables.specs.Nets.{pairs, Present, place_of, every, besides, keeps_beside, agrees_at};
-ghost use Rattle.tables.specs.Origins.{setting_in};
+ghost use Rattle.tables.specs.Origins.{setting_in, pair_values};
 ghost use Rattle.tables.specs.Reading.{Top};
 ghost use Rattle.tables.specs.Settling.{Lowers, Beside, Takes, touches, both};
 
@@ -90,7 +90,7 @@ impl<V: Tally> Layout<V> for Two {
 impl<V: Tally> Places<'_, '_, V> {
     // The place of p and q; a missing place is never.
     fn pair(&self, p: u8, q: u8) -> Estimate<V>
-        ensures { result ≡ place_of (pairs V.Tally (setting_in self.now.origin)) self.now.table.now (p, q) }
+        ensures { result ≡ pair_values V.Tally self.now (p, q) }
     {
         let facts = self.origin.facts;
         if (p < facts) & (q < facts) {
@@ -102,7 +102,7 @@ impl<V: Tally> Places<'_, '_, V> {
 
     // The highest of the places of p with the set's facts, nil if there is none.
     fn row(&self, p: u8, set: FactSet) -> Estimate<V>
-        ensures { Top V.Tally (λ k. (k.0 ≡ p) × T (has set k.1)) (place_of (pairs V.Tally (setting_in self.now.origin)) self.now.table.now) result }
+        ensures { Top V.Tally (λ k. (k.0 ≡ p) × T (has set k.1)) (pair_values V.Tally self.now) result }
     {
         let mut top = Estimate::<V>::nil();
         for q in set.iter() {
@@ -113,7 +113,7 @@ impl<V: Tally> Places<'_, '_, V> {
 
     // The highest of the places of two facts of the set, nil for the empty set.
     fn highest_pair(&self, set: FactSet) -> Estimate<V>
-        ensures { Top V.Tally (λ k. T (has set k.0) × T (has set k.1)) (place_of (pairs V.Tally (setting_in self.now.origin)) self.now.table.now) result }
+        ensures { Top V.Tally (λ k. T (has set k.0) × T (has set k.1)) (pair_values V.Tally self.now) result }
     {
         let mut top = Estimate::<V>::nil();
         for p in set.iter() {
@@ -124,7 +124,7 @@ impl<V: Tally> Places<'_, '_, V> {
 
     // The highest of the places of r with the set's facts and with itself, either way round.
     fn beside(&self, r: u8, set: FactSet) -> Estimate<V>
-        ensures { Top V.Tally (λ k. ((k.0 ≡ r) × ((k.1 ≡ r) ⊎ T (has set k.1))) ⊎ ((k.1 ≡ r) × T (has set k.0))) (place_of (pairs V.Tally (setting_in self.now.origin)) self.now.table.now) result }
+        ensures { Top V.Tally (λ k. ((k.0 ≡ r) × ((k.1 ≡ r) ⊎ T (has set k.1))) ⊎ ((k.1 ≡ r) × T (has set k.0))) (pair_values V.Tally self.now) result }
     {
         let mut top = self.pair(r, r);
         for p in set.iter() {
@@ -136,8 +136,8 @@ impl<V: Tally> Places<'_, '_, V> {
 
     // The estimate of what the move needs for a fact that it makes together with r, where `base` is that of its needs.
     fn with_beside(&self, m: &Move, base: Estimate<V>, r: u8) -> Estimate<V>
-        requires { Top V.Tally (λ k. T (has m.now.needs k.0) × T (has m.now.needs k.1)) (place_of (pairs V.Tally (setting_in self.now.origin)) self.now.table.now) base }
-        ensures { Top V.Tally (λ k. T (besides m.now r k.0) × T (besides m.now r k.1)) (place_of (pairs V.Tally (setting_in self.now.origin)) self.now.table.now) result }
+        requires { Top V.Tally (λ k. T (has m.now.needs k.0) × T (has m.now.needs k.1)) (pair_values V.Tally self.now) base }
+        ensures { Top V.Tally (λ k. T (besides m.now r k.0) × T (besides m.now r k.1)) (pair_values V.Tally self.now) result }
     {
         if m.makes.has(r) | m.needs.has(r) {
             base
@@ -148,8 +148,8 @@ impl<V: Tally> Places<'_, '_, V> {
 
     // Whether the heads of the move beside r are at most what it offers for them.
     fn keeps_beside(&self, m: &Move, base: Estimate<V>, r: u8) -> bool
-        requires { Top V.Tally (λ k. T (has m.now.needs k.0) × T (has m.now.needs k.1)) (place_of (pairs V.Tally (setting_in self.now.origin)) self.now.table.now) base }
-        ensures { result ≡ keeps_beside V.Tally (setting_in self.now.origin) (place_of (pairs V.Tally (setting_in self.now.origin)) self.now.table.now) m.now r }
+        requires { Top V.Tally (λ k. T (has m.now.needs k.0) × T (has m.now.needs k.1)) (pair_values V.Tally self.now) base }
+        ensures { result ≡ keeps_beside V.Tally (setting_in self.now.origin) (pair_values V.Tally self.now) m.now r }
     {
         if m.breaks.has(r) | m.makes.has(r) {
             return true;
@@ -160,8 +160,8 @@ impl<V: Tally> Places<'_, '_, V> {
 
     // The same beside every fact.
     fn keeps_all_beside(&self, m: &Move, base: Estimate<V>) -> bool
-        requires { Top V.Tally (λ k. T (has m.now.needs k.0) × T (has m.now.needs k.1)) (place_of (pairs V.Tally (setting_in self.now.origin)) self.now.table.now) base }
-        ensures { result ≡ every self.now.origin.facts (keeps_beside V.Tally (setting_in self.now.origin) (place_of (pairs V.Tally (setting_in self.now.origin)) self.now.table.now) m.now) }
+        requires { Top V.Tally (λ k. T (has m.now.needs k.0) × T (has m.now.needs k.1)) (pair_values V.Tally self.now) base }
+        ensures { result ≡ every self.now.origin.facts (keeps_beside V.Tally (setting_in self.now.origin) (pair_values V.Tally self.now) m.now) }
     {
         // a loop, since `all` over a range leaves the clause open
         for r in 0..self.origin.facts {
@@ -174,7 +174,7 @@ impl<V: Tally> Places<'_, '_, V> {
 
     // Whether the single of p is at most each pair with it, and each such pair at most itself the other way round.
     fn row_agrees(&self, p: u8) -> bool
-        ensures { result ≡ every self.now.origin.facts (agrees_at V.Tally (place_of (pairs V.Tally (setting_in self.now.origin)) self.now.table.now) p) }
+        ensures { result ≡ every self.now.origin.facts (agrees_at V.Tally (pair_values V.Tally self.now) p) }
     {
         let single = self.pair(p, p);
         // a loop, since `all` over a range leaves the clause open
@@ -189,7 +189,7 @@ impl<V: Tally> Places<'_, '_, V> {
 
     // Whether each single is at most each pair with it, and each pair the same either way round.
     fn agrees(&self) -> bool
-        ensures { result ≡ every self.now.origin.facts (λ p. every self.now.origin.facts (agrees_at V.Tally (place_of (pairs V.Tally (setting_in self.now.origin)) self.now.table.now) p)) }
+        ensures { result ≡ every self.now.origin.facts (λ p. every self.now.origin.facts (agrees_at V.Tally (pair_values V.Tally self.now) p)) }
     {
         // a loop, since `all` over a range leaves the clause open
         for p in 0..self.origin.facts {
