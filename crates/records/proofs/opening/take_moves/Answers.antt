@@ -3,7 +3,7 @@ use Rattle.std.proofs.lemmas.Result.{err_from_is_err_and}
 use Rattle.tasks.proofs.Checks.{few_moves_of}
 use Rattle.theory.specs.Openings.{none_yet, not_regressing, passed_over}
 use Rattle.records.proofs.Growing.{grown_none, grown_on}
-use Rattle.records.proofs.Steps.{move_here, one_taken, one_led, all_taken, no_room}
+use Rattle.records.proofs.Steps.{move_here, one_taken, one_led, no_room}
 use Rattle.records.proofs.opening.take_moves.Goals as goal
 
 pub loop-number-init : goal.loop-number-init
@@ -45,12 +45,4 @@ loop-number-preserved g c =
       grown = grown_on _ _ _ so.grown new.grown;
       taken = one_led _ _ _ _ so.taken here c.in-Some.ensures (sym c.estimate.ensures ∙ c.in-Some-estimate.is)
           c.child.ensures (λ lead is. new.entered _ _ _ _ _ _ _ (sym so.grown.room) lead is);
-    }
-
-pub returns : goal.returns
-returns g c =
-    let so = c.loop-number.invariant in
-    record {
-      grown = so.grown;
-      taken = all_taken _ _ _ _ so.taken (omega (arith, c.loop-number-test.false, ap length c.moves-m-items.ensures));
     }

@@ -1,11 +1,8 @@
 use Rattle.std.proofs.Common.{sym, refl, arith, leb-false, leb-true}
 use Rattle.tasks.proofs.Places.{at_less}
-use Rattle.records.proofs.Growing.{grown_none, grown_on}
-use Rattle.runs.proofs.Carrying.{is_not, nothing_yet, one_opened, none_left, plan_found, grant_used, no_room}
+use Rattle.records.proofs.Growing.{grown_on}
+use Rattle.runs.proofs.Carrying.{is_not, one_opened, none_left, plan_found, grant_used, no_room}
 use Rattle.runs.proofs.running.go_on.Goals as goal
-
-pub loop-first-init : goal.loop-first-init
-loop-first-init g c = record { grown = grown_none _; granted = omega arith; carried = nothing_yet _ _ _ }
 
 pub returns-then-arrives-clause-inside : goal.returns-then-arrives-clause-inside
 returns-then-arrives-clause-inside g c = rw c.arrived.ensures (at_less c.in-Some.ensures.at)

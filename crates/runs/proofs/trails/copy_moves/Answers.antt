@@ -1,12 +1,9 @@
-use Rattle.std.proofs.Common.{length, Some, sym, refl, ap, ◌∙◌, subst, arith}
+use Rattle.std.proofs.Common.{length, Some, sym, ap, ◌∙◌, subst, arith}
 use Rattle.std.proofs.lemmas.List.{set-get_or}
 use Rattle.theory.specs.Runs.{Trail}
 use Rattle.runs.specs.Trails.{Steps}
-use Rattle.runs.proofs.Trailing.{copied_none, copied_more, copied_all, way_done}
+use Rattle.runs.proofs.Trailing.{copied_more, copied_all, way_done}
 use Rattle.runs.proofs.trails.copy_moves.Goals as goal
-
-pub loop-place-init : goal.loop-place-init
-loop-place-init g c = (refl, omega (arith, c.take-trail.ensures.count), copied_none _ _)
 
 pub loop-place-preserved : goal.loop-place-preserved
 loop-place-preserved g c =
