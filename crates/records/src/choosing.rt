@@ -47,7 +47,7 @@ fn better<V: Tally>(best: Option<Numbered<V>>, next: Numbered<V>) -> Option<Numb
     }
 }
 
-// Whether one record comes before another by promise, then spent.
+// Whether one record comes before another by promise, then spent. The order is that of the tally at hand, so there is no `Ord`.
 fn comes_before<V: Tally>(one: Record<V>, other: Record<V>) -> bool
     ensures { result ≡ is_before V.Tally one other }
 {

@@ -31,6 +31,7 @@ fn search_by(task: Task<'_>, pairs: &[Estimate<Minutes>], list: &mut [u16; 1024]
     let mut told = [Err(Refusal::NotPlanned); 2];
     let calls = [Call::Run(1024), Call::ReadOut(1024)];
     let _ = queue(task, &bound, &mut table, &calls, &mut told, list);
+    // two patterns: a nested one loses what is known of its arms
     let first = told[0];
     let Ok(told) = first else { unreachable() };
     match told {

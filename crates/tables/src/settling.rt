@@ -24,6 +24,7 @@ fn cheapest<V: Tally>(done: &[bool], table: &[Estimate<V>]) -> Option<usize>
     ensures { Picks V.Tally done.now table.now result }
 {
     let mut best = None;
+    // a zip of the two was tried: the proof then has the iterators' names alone
     for (number, value) in table.iter().enumerate() {
         if !done[number] {
             best = lesser(best, number, *value);
@@ -85,6 +86,7 @@ pub fn settle<L: Layout<V>, V: Tally>(origin: &Origin<'_>, table: &mut [Estimate
     L::is_laid();
     begin::<L, V>(origin, table);
     take_all::<L, V>(origin, None, table);
+    // which places are settled, beside a table that is lent and has no room for it
     let mut done = [false; 4096];
     while let Some(chosen) = cheapest(&done, table) {
         done[chosen] = true;
