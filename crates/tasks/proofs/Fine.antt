@@ -1,5 +1,5 @@
 -- A test that a draft written down passes only if it has no fault.
-use Rattle.std.proofs.Common.{◌≡◌, ℕ, ◌^◌, ◌≤◌, Bool, true, ◌&&◌, T, eqb, ltb, leb, eqb→eq, List, [], ◌∷◌, length, ap, ◌∙◌, subst, sym, ⊎_elim, arith, lit<, lit≤}
+use Rattle.std.proofs.Common.{◌≡◌, ℕ, ◌^◌, ◌≤◌, Bool, true, ◌&&◌, T, ◌==◌, nat_lt, nat_le, eqb→eq, List, [], ◌∷◌, length, ap, ◌∙◌, subst, sym, ⊎_elim, arith, lit<, lit≤}
 use lib.Bits.{bit_and}
 use Rattle.facts.specs.Sets.{HasFrom, Overlap}
 use Rattle.facts.specs.Words.{bit}
@@ -17,20 +17,20 @@ use Rattle.tasks.specs.declared.refusal.Refusal.TheVariants.{OutOfRange, Unknown
 
 -- all facts of s are below the limit
 abbrev pub below : ℕ → FactSet → Bool
-below limit s = ltb s.word (2 ^ limit)
+below limit s = nat_lt s.word (2 ^ limit)
 
 abbrev pub fine_facts : ℕ → Move → Bool
-fine_facts facts m = below facts m.needs && (below facts m.makes && (below facts m.breaks && eqb (bit_and m.makes.word m.breaks.word) 0))
+fine_facts facts m = below facts m.needs && (below facts m.makes && (below facts m.breaks && bit_and m.makes.word m.breaks.word == 0))
 
 abbrev pub fine_move : ℕ → Move → Bool
-fine_move facts m = leb m.group 7 && fine_facts facts m
+fine_move facts m = nat_le m.group 7 && fine_facts facts m
 
 abbrev pub fine_moves : ℕ → List Move → Bool
 fine_moves facts [] = true
 fine_moves facts (m ∷ moves) = fine_move facts m && fine_moves facts moves
 
 abbrev pub fine_counts : Draft → Bool
-fine_counts d = leb 1 d.facts && (leb d.facts 64 && leb (length d.moves.now) 1024)
+fine_counts d = nat_le 1 d.facts && (nat_le d.facts 64 && nat_le (length d.moves.now) 1024)
 
 abbrev pub fine_sets : Draft → Bool
 fine_sets d = below d.facts d.start && (below d.facts d.goal && fine_moves d.facts d.moves.now)
@@ -63,25 +63,25 @@ fine_is_faultless d h = faultless
 
     faultless : (r : Refusal) (p : Place) → Faulty d r p → ⊥
     faultless OutOfRange Heading f =
-        let some : 1 ≤ d.facts = lit≤ (and_left (leb 1 d.facts) _ counts) in
-        let few : d.facts ≤ 64 = lit≤ (and_left (leb d.facts 64) _ (and_right (leb 1 d.facts) _ counts)) in
-        let short : length d.moves.now ≤ 1024 = lit≤ (and_right (leb d.facts 64) _ (and_right (leb 1 d.facts) _ counts)) in
+        let some : 1 ≤ d.facts = lit≤ (and_left (nat_le 1 d.facts) _ counts) in
+        let few : d.facts ≤ 64 = lit≤ (and_left (nat_le d.facts 64) _ (and_right (nat_le 1 d.facts) _ counts)) in
+        let short : length d.moves.now ≤ 1024 = lit≤ (and_right (nat_le d.facts 64) _ (and_right (nat_le 1 d.facts) _ counts)) in
         ⊎_elim (λ l. omega arith) (λ k. ⊎_elim (λ l. omega arith) (λ l. omega arith) k) f
     faultless UnknownFact Heading f =
         ⊎_elim (inside d.facts d.start (and_left _ _ sets)) (inside d.facts d.goal (and_left _ _ (and_right _ _ sets))) f
     faultless MakesAndBreaks Heading f = f
-    faultless OutOfRange (OfMove k) f = let low : f.0.group ≤ 7 = lit≤ (and_left (leb f.0.group 7) (fine_facts d.facts f.0) (fine f.1)) in let high = f.2 in omega arith
+    faultless OutOfRange (OfMove k) f = let low : f.0.group ≤ 7 = lit≤ (and_left (nat_le f.0.group 7) (fine_facts d.facts f.0) (fine f.1)) in let high = f.2 in omega arith
     faultless UnknownFact (OfMove k) f =
         let m = f.0 in
-        let needs = and_right (leb m.group 7) (fine_facts d.facts m) (fine f.1) in
+        let needs = and_right (nat_le m.group 7) (fine_facts d.facts m) (fine f.1) in
         let makes = and_right (below d.facts m.needs) _ needs in
         let breaks = and_right (below d.facts m.makes) _ makes in
         ⊎_elim (inside d.facts m.needs (and_left (below d.facts m.needs) _ needs))
         (⊎_elim (inside d.facts m.makes (and_left (below d.facts m.makes) _ makes)) (inside d.facts m.breaks (and_left (below d.facts m.breaks) _ breaks))) f.2
     faultless MakesAndBreaks (OfMove k) f =
         let m = f.0 in
-        let needs = and_right (leb m.group 7) (fine_facts d.facts m) (fine f.1) in
+        let needs = and_right (nat_le m.group 7) (fine_facts d.facts m) (fine f.1) in
         let makes = and_right (below d.facts m.needs) _ needs in
         let breaks = and_right (below d.facts m.makes) _ makes in
-        let clear = and_right (below d.facts m.breaks) (eqb (bit_and m.makes.word m.breaks.word) 0) breaks in
+        let clear = and_right (below d.facts m.breaks) (bit_and m.makes.word m.breaks.word == 0) breaks in
         apart m.makes m.breaks (eqb→eq (bit_and m.makes.word m.breaks.word) 0 clear) f.2

@@ -19,7 +19,7 @@ abbrev pub two_moves : List Move
 two_moves = record { group = 0; price = 15; needs = set_of 1; makes = set_of 2; breaks = set_of 1 }
     ∷ record { group = 1; price = 4; needs = set_of 0; makes = set_of 4; breaks = set_of 0 } ∷ []
 
--- a draft with so many facts, which the test shows to have no fault
+-- the task of such a draft, which the test shows to have no fault
 abbrev pub task_with : (facts start goal : ℕ) (moves : List Move) → T (is_fine (draft_with facts start goal moves)) → Task
 task_with facts start goal moves fine =
     record { draft = draft_with facts start goal moves; checked = fine_is_faultless (draft_with facts start goal moves) fine }
