@@ -12,7 +12,7 @@ use tasks::Task;
 use theory::{Record, Refusal};
 
 // Makes a search from a task, a bound and a table, then makes each call in turn, every run with the same bound.
-// The answers come into `replies`, beside their calls, and the moves read out into the front of `list`.
+// The answers come into `replies`, beside their calls, and the moves read out into the front of `list`: both are lent, as there is no heap.
 pub fn queue<'a, 't, V: Tally, B: Bound<Value = V>>(
     task: Task<'t>,
     bound: &B,

@@ -16,6 +16,7 @@ pub fn respond(heap: Global, bytes: &[u8]) -> Result<String, AllocError>
     ensures { IfOk result (λ text. Response bytes.now (string_bytes text)) }
 {
     let mut moves = room();
+    // lent to the search, which fills its front and tells how far
     let mut list = [0; 1024];
     match solve(bytes, &mut moves, &mut list) {
         Ok(reply) => answer_text(heap, &reply, &list[..usize::from(reply.length)]),

@@ -9,7 +9,7 @@ use tasks::{Draft, Move};
 pub struct Heading {
     // how many facts there are
     pub facts: u8,
-    // how many moves there are
+    // how many moves there are; they stand in the front of a list that is lent
     pub count: u16,
     pub start: FactSet,
     pub goal: FactSet,

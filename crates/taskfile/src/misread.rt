@@ -25,6 +25,6 @@ impl Flaw {
 #[derive(Clone, Copy, PartialEq, Eq)]
 pub struct Misread {
     pub flaw: Flaw,
-    // counted from 1; 0 for the file itself
+    // counted from 1; 0 for the file itself, as it is told
     pub line: u32,
 }

@@ -20,7 +20,7 @@ impl Refusal {
     }
 }
 
-// Where a draft is at fault.
+// Where a draft is at fault: two kinds of place, of which neither is the lack of one.
 #[derive(Clone, Copy, PartialEq, Eq)]
 pub enum Place {
     // the number of facts, the number of moves, the start or the goal

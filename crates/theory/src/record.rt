@@ -7,7 +7,7 @@ pub enum Mark {
     Shut,
 }
 
-// What the search knows of one set of facts.
+// What the search knows of one set of facts. Its six entries, with 65,535 for none, are fixed for whoever reads the table.
 #[derive(Clone, Copy)]
 pub struct Record<V> {
     // the facts that are to stand

@@ -11,7 +11,7 @@ pub enum Kind {
     Full,
 }
 
-// The answer of a run.
+// The answer of a run. Its four parts, nil and 0 where a kind has none, are what two answers are compared by.
 #[derive(Clone, Copy)]
 pub struct Reply<V> {
     pub kind: Kind,
