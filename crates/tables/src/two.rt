@@ -46,7 +46,7 @@ impl<V: Tally> Layout<V> for Two {
         ensures { Takes V.Tally (pairs V.Tally (setting_in origin.now)) m.now settled table.old table.new }
     {
         let others = concerned(m, origin.facts, settled);
-        if others.start >= others.end {
+        if others.is_empty() {
             return;
         }
         let places = Places {
@@ -59,7 +59,7 @@ impl<V: Tally> Layout<V> for Two {
             return;
         }
         let heads = m.makes.without(m.breaks);
-        for r in others.start..others.end {
+        for r in others {
             if !m.breaks.has(r) {
                 let places = Places {
                     origin: *origin,
