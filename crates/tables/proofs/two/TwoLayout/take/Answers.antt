@@ -3,16 +3,14 @@ use Rattle.std.proofs.lemmas.Bool.{cases_eq, not-true}
 use Rattle.std.proofs.lemmas.Map.Keys.{ge_from_not_lt}
 use Rattle.facts.specs.Sets.{has}
 use Rattle.facts.proofs.Tests.{from_true, not_both}
-use Rattle.tasks.specs.Places.{At}
 use Rattle.costs.specs.Estimates.{Estimate}
 use Rattle.tables.specs.Equation.{offer_of}
 use Rattle.tables.specs.Nets.{pairs, place_of}
 use Rattle.tables.specs.Origins.{setting_in}
 use Rattle.tables.specs.Reading.{Two, Top, estimate_by_pairs}
-use Rattle.tables.specs.Settling.{touches, Before, Turned}
 use Rattle.tables.proofs.Order.{laws_of}
 use Rattle.tables.proofs.Tops.{pairs_top, top_sole}
-use Rattle.tables.proofs.TwoFacts.{With, with_first, with_last, with_never, with_lowers, with_broken, needs_kept, besides_top, target_estimate}
+use Rattle.tables.proofs.TwoFacts.{with_first, with_last, with_never, with_lowers, with_broken, needs_kept, besides_top, target_estimate}
 use Rattle.tables.proofs.two.TwoLayout.take.Goals as goal
 
 -- the facts from a on that come before r, and one more
