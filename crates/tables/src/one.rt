@@ -72,6 +72,7 @@ impl<V: Tally> Layout<V> for One {
 
 impl<V: Tally> Places<'_, '_, V> {
     // The place of fact p; a missing place is never.
+    // Apart from `pair`: one function of any layout was tried, but called from a layout's own it stands in a cycle of calls.
     fn single(&self, p: u8) -> Estimate<V>
         ensures { result ≡ single_values V.Tally self.now p }
     {
@@ -83,6 +84,7 @@ impl<V: Tally> Places<'_, '_, V> {
     }
 
     // The highest of the places of the set's facts, nil for the empty set.
+    // Apart from `row`: the loops differ in the place read, and a closure for that would have to tell its places in the contract.
     fn highest_single(&self, set: FactSet) -> Estimate<V>
         ensures { Top V.Tally (λ p. T (has set p)) (single_values V.Tally self.now) result }
     {
@@ -102,6 +104,7 @@ fn is_touched(needs: FactSet, settled: Option<u8>) -> bool
 }
 
 // Lowers the places of the facts to `offer` where that is less; a missing place stays.
+// Apart from `lower_pairs`, which has a second fact and lowers two places for each head.
 fn lower_singles<V: Tally>(
     table: &mut [Estimate<V>],
     origin: &Origin<'_>,
@@ -117,6 +120,7 @@ fn lower_singles<V: Tally>(
 }
 
 // Lowers the place of fact p.
+// Apart from `lower_pair`: one function of any layout was tried, but called from a layout's own it stands in a cycle of calls.
 fn lower_single<V: Tally>(table: &mut [Estimate<V>], origin: &Origin<'_>, p: u8, offer: Estimate<V>)
     requires { length table.old ≡ origin.now.facts }
     ensures { Lowers V.Tally (λ k. Present (singles V.Tally (setting_in origin.now)) k × (k ≡ p)) offer (place_of (singles V.Tally (setting_in origin.now)) table.old) (place_of (singles V.Tally (setting_in origin.now)) table.new) }

@@ -69,12 +69,10 @@ impl<'a> Origin<'a> {
     pub(crate) fn share<V: Tally>(&self, number: u16) -> V
         ensures { result ≡ share_at V.Tally self.now.groups self.now.moves.now number }
     {
-        let number = usize::from(number);
-        if number < self.moves.len() {
-            self.counted_charge(&self.moves[number])
-        } else {
-            V::nil()
-        }
+        let Some(m) = self.moves.get(usize::from(number)) else {
+            return V::nil();
+        };
+        self.counted_charge(m)
     }
 }
 

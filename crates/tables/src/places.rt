@@ -15,10 +15,6 @@ impl<V: Tally> Places<'_, '_, V> {
     pub fn at(&self, number: usize) -> Estimate<V>
         ensures { result ≡ slice_index_or self.now.table.now number None }
     {
-        if number < self.table.len() {
-            self.table[number]
-        } else {
-            None
-        }
+        self.table.get(number).copied().flatten()
     }
 }

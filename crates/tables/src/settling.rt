@@ -18,7 +18,7 @@ pub fn lower_at<V: Tally>(table: &mut [Estimate<V>], number: usize, offer: Estim
     table[number] = table[number].smaller(offer);
 }
 
-// The open place of least value, with that; none if no open place has a value.
+// The number of the open place of least value; none if no open place has a value.
 fn cheapest<V: Tally>(done: &[bool], table: &[Estimate<V>]) -> Option<usize>
     requires { length table.now ≤ length done.now }
     ensures { Picks V.Tally done.now table.now result }

@@ -46,7 +46,7 @@ impl<V: Tally> Layout<V> for Two {
         ensures { Takes V.Tally (pairs V.Tally (setting_in origin.now)) m.now settled table.old table.new }
     {
         let others = concerned(m, origin.facts, settled);
-        if others.start >= others.end {
+        if others.is_empty() {
             return;
         }
         let places = Places {
@@ -59,7 +59,7 @@ impl<V: Tally> Layout<V> for Two {
             return;
         }
         let heads = m.makes.without(m.breaks);
-        for r in others.start..others.end {
+        for r in others {
             if !m.breaks.has(r) {
                 let places = Places {
                     origin: *origin,
@@ -146,26 +146,18 @@ impl<V: Tally> Places<'_, '_, V> {
         }
     }
 
-    // Whether the heads of the move beside r are at most what it offers for them.
-    fn keeps_beside(&self, m: &Move, base: Estimate<V>, r: u8) -> bool
-        requires { Top V.Tally (λ k. T (has m.now.needs k.0) × T (has m.now.needs k.1)) (pair_values V.Tally self.now) base }
-        ensures { result ≡ keeps_beside V.Tally (setting_in self.now.origin) (pair_values V.Tally self.now) m.now r }
-    {
-        if m.breaks.has(r) | m.makes.has(r) {
-            return true;
-        }
-        let offer = self.origin.offer(m, self.with_beside(m, base, r));
-        self.row(r, m.makes.without(m.breaks)).at_most(offer)
-    }
-
-    // The same beside every fact.
+    // Whether the heads of the move beside every fact are at most what it offers for them.
     fn keeps_all_beside(&self, m: &Move, base: Estimate<V>) -> bool
         requires { Top V.Tally (λ k. T (has m.now.needs k.0) × T (has m.now.needs k.1)) (pair_values V.Tally self.now) base }
         ensures { result ≡ every self.now.origin.facts (keeps_beside V.Tally (setting_in self.now.origin) (pair_values V.Tally self.now) m.now) }
     {
         // a loop, since `all` over a range leaves the clause open
         for r in 0..self.origin.facts {
-            if !self.keeps_beside(m, base, r) {
+            if m.breaks.has(r) | m.makes.has(r) {
+                continue;
+            }
+            let offer = self.origin.offer(m, self.with_beside(m, base, r));
+            if !self.row(r, m.makes.without(m.breaks)).at_most(offer) {
                 return false;
             }
         }
