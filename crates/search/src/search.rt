@@ -9,7 +9,7 @@ use theory::Refusal;
 pub mod calls;
 mod steps;
 
-// What every call finds and leaves.
+// A search: its task, what it holds, and why it was refused, if so.
 #[derive(Drop)]
 pub struct Search<'a, 't, V> {
     task: Task<'t>,
