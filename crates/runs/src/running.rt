@@ -25,7 +25,7 @@ pub fn run<V: Tally, B: Bound<Value = V>>(
     grant: u32,
 ) -> Reply<V>
     ensures grown { Grown holding.old.records holding.new.records }
-    ensures ran { RunsTo (problem_of V.Tally B.Bound task.now bound.now (room_of holding.old.records)) grant (recs_of holding.old.records) holding.old.end result (recs_of holding.new.records) holding.new.end }
+    ensures ran { ∥ Sane (recs_of holding.old.records) holding.old.end ∥₁ → RunsTo (problem_of V.Tally B.Bound task.now bound.now (room_of holding.old.records)) grant (recs_of holding.old.records) holding.old.end result (recs_of holding.new.records) holding.new.end }
 {
     if let Some(reply) = tell(holding) {
         return reply;

@@ -18,7 +18,7 @@ read-requires-in-Filled g c =
 
 pub returns-in-Planned : goal.returns-in-Planned
 returns-in-Planned g c =
-    plan_told _ _ c.args.holding.now.traced c.in-Planned.is (rw c.rows.ensures.rows at c.read.ensures) (rw c.rows-in-Planned.ensures.rows at c.trail_length.ensures)
+    plan_told _ _ c.in-Planned.is (rw c.rows.ensures.rows at c.read.ensures) (rw c.rows-in-Planned.ensures.rows at c.trail_length.ensures)
 
 pub returns-in-Exhausted : goal.returns-in-Exhausted
 returns-in-Exhausted g c = none_told _ _ c.in-Exhausted.is c.nil.ensures
