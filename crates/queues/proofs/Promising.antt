@@ -77,7 +77,7 @@ module _ {V : Type 0} {tally : Ghosts V} (lawful : Lawful tally.at_most tally.ni
     by_rules = queue;
     promises = queues_keep_promises lawful P new.honest book.events (state_of later) queue steady;
     sum_counts = λ fs other q s same. only_sum_counts lawful P new.honest book.events fs (state_of later) other queue steady q s same;
-    brief = λ recs i l e t. omega (arith, plan_brief later.made (recs_of later.holding.records) later.holding.end later.holding.traced e t, length-take later.holding.records.count (table_of later), served.stays.rest.size, new.rest.size);
+    brief = λ recs i l e t. omega (arith, plan_brief later.made (recs_of later.holding.records) later.holding.end later.traced e t, length-take later.holding.records.count (table_of later), served.stays.rest.size, new.rest.size);
     list_read = book.list;
     table_rest = record {
       size = served.stays.rest.size ∙ new.rest.size;

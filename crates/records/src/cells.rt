@@ -1,5 +1,5 @@
 // The records as they stand in the table.
-ghost use Rattle.std.specs.Prelude.{◌≡◌, ◌<◌, ◌≤◌, [], length, min, slice_set, MatchOption};
+ghost use Rattle.std.specs.Prelude.{◌≡◌, ◌<◌, ◌≤◌, [], length, min, take, slice_set, MatchOption};
 ghost use Rattle.tasks.specs.Places.{At};
 ghost use Rattle.records.specs.Tables.{table_of, recs_of, room_of, Grown, Added};
 ghost use Rattle.records.specs.Openings.{ShutAt};
@@ -20,12 +20,19 @@ impl<'a, V: Tally> Records<'a, V> {
         ensures table { table_of result ≡ table.old }
         ensures lent { result.table.ghost_name ≡ table.entry.ghost_name }
     {
+        Records::of(table, 0, room)
+    }
+
+    // The first places of a table as records: so many, or as many as may be.
+    pub fn of(table: &'a mut [Record<V>], count: u16, room: u16) -> Self
+        ensures recs { recs_of result ≡ take (min count (min room (length table.old))) table.old }
+        ensures room { room_of result ≡ min room (length table.old) }
+        ensures table { table_of result ≡ table.old }
+        ensures lent { result.table.ghost_name ≡ table.entry.ghost_name }
+    {
         let room = usize::from(room).min(table.len()) as u16;
-        Records {
-            table,
-            count: 0,
-            room,
-        }
+        let count = count.min(room);
+        Records { table, count, room }
     }
 
     // The records by their numbers.

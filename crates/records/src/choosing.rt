@@ -1,31 +1,28 @@
 // The choice. Nothing else compares promises, so a heap may go behind it.
-ghost use Rattle.std.specs.Prelude.{◌≡◌, MatchOption};
+ghost use Rattle.std.specs.Prelude.{◌≡◌, ◌≤◌, length, MatchOption};
 ghost use Rattle.theory.specs.Records.{NoneWaits};
 ghost use Rattle.records.specs.Choice.{is_before, better_of, IsChosen};
-ghost use Rattle.records.specs.Tables.{recs_of};
 
 use crate::numbered::Numbered;
-use crate::table::Records;
 use costs::Tally;
 use theory::{Mark, Record};
 
-impl<V: Tally> Records<'_, V> {
-    // The waiting record of least promise, then least spent, then lowest number.
-    pub fn choice(&self) -> Option<Numbered<V>>
-        ensures { MatchOption result (NoneWaits (recs_of self.now)) (IsChosen V.Tally (recs_of self.now)) }
-    {
-        let mut best = None;
-        for (number, row) in self.rows().iter().enumerate() {
-            best = better(
-                best,
-                Numbered {
-                    number: number as u16,
-                    row: *row,
-                },
-            );
-        }
-        best
+// The waiting record of least promise, then least spent, then lowest number.
+pub fn choice<V: Tally>(rows: &[Record<V>]) -> Option<Numbered<V>>
+    requires { length rows.now ≤ 65535 }
+    ensures { MatchOption result (NoneWaits rows.now) (IsChosen V.Tally rows.now) }
+{
+    let mut best = None;
+    for (number, row) in rows.iter().enumerate() {
+        best = better(
+            best,
+            Numbered {
+                number: number as u16,
+                row: *row,
+            },
+        );
     }
+    best
 }
 
 // Which of the best so far and the record after it is the better choice: the earlier one where they tie.

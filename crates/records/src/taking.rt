@@ -6,7 +6,9 @@ ghost use Rattle.records.specs.Entries.{lowered_of, LoweredAt, Entered};
 ghost use Rattle.records.specs.Tables.{recs_of, room_of, Grown};
 
 use crate::cells::Full;
+use crate::finding::record_of;
 use crate::numbered::Numbered;
+use crate::reading::read;
 use crate::table::Records;
 use costs::Tally;
 use facts::FactSet;
@@ -40,7 +42,7 @@ impl<V: Tally> Records<'_, V> {
         ensures grown { Grown self.old self.new }
         ensures entered { Entered V.Tally (room_of self.old) (recs_of self.old) (recs_of self.new) new result }
     {
-        let Some(number) = self.record_of(new.set) else {
+        let Some(number) = record_of(self.rows(), new.set) else {
             return self.add(new);
         };
         self.lower(number, new);
@@ -53,7 +55,7 @@ impl<V: Tally> Records<'_, V> {
         ensures grown { Grown self.old self.new }
         ensures lowered { LoweredAt V.Tally (recs_of self.old) number new (recs_of self.new) }
     {
-        let old = self.rows()[usize::from(number)];
+        let old = read(self.rows(), number);
         self.put(number, lowered(old, new));
     }
 }

@@ -8,6 +8,7 @@ use Rattle.theory.specs.declared.record.Record.{Record}
 use Rattle.theory.specs.declared.reply.End.{End}
 use Rattle.theory.specs.declared.reply.End.TheVariants.{Going, Planned, Exhausted, Filled}
 use Rattle.theory.specs.declared.reply.Reply.{Reply}
+use Rattle.runs.specs.Trails.{Sane}
 
 -- the record that the end tells of, if any, is among the first n
 abbrev pub Inside : ℕ → End → Type 0
@@ -25,4 +26,4 @@ inside_prop n (Filled i) = le_prop
 
 -- the reply is what the rules have a search tell that has ended so
 abbrev pub Retells : {V : Type 0} → Ghosts V → List (Record V) → End → Reply V → Type 0
-Retells tally recs end reply = (P : Problem tally) → Tells P recs end reply
+Retells tally recs end reply = ∥ Sane recs end ∥₁ → (P : Problem tally) → Tells P recs end reply

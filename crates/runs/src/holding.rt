@@ -1,7 +1,6 @@
 ghost use Rattle.std.specs.Prelude.{length};
 ghost use Rattle.records.specs.Tables.{recs_of};
 ghost use Rattle.runs.specs.Ends.{Inside, inside_prop};
-ghost use Rattle.runs.specs.Trails.{Sane};
 
 use records::Records;
 use theory::End;
@@ -14,6 +13,4 @@ pub struct Holding<'a, V> {
     pub end: End,
     // the end tells of one of the records
     ghost inside: { Inside (length (recs_of records)) end } by { inside_prop (length (recs_of records)) end },
-    // each record has its way back to record 0, or that of the plan
-    ghost traced: { ∥ Sane (recs_of records) end ∥₁ },
 }

@@ -13,7 +13,7 @@ use crate::telling::tell;
 use crate::trails::trail_length;
 use bounds::Bound;
 use costs::Tally;
-use records::{Full, Records, open};
+use records::{Full, Records, choice, open};
 use tasks::Task;
 use theory::Reply;
 
@@ -25,7 +25,7 @@ pub fn run<V: Tally, B: Bound<Value = V>>(
     grant: u32,
 ) -> Reply<V>
     ensures grown { Grown holding.old.records holding.new.records }
-    ensures ran { RunsTo (problem_of V.Tally B.Bound task.now bound.now (room_of holding.old.records)) grant (recs_of holding.old.records) holding.old.end result (recs_of holding.new.records) holding.new.end }
+    ensures ran { ∥ Sane (recs_of holding.old.records) holding.old.end ∥₁ → RunsTo (problem_of V.Tally B.Bound task.now bound.now (room_of holding.old.records)) grant (recs_of holding.old.records) holding.old.end result (recs_of holding.new.records) holding.new.end }
 {
     if let Some(reply) = tell(holding) {
         return reply;
@@ -47,9 +47,9 @@ fn go_on<V: Tally, B: Bound<Value = V>>(
     ensures ran { ∥ Sane (recs_of records.old) Going ∥₁ → RunsTo (problem_of V.Tally B.Bound task.now bound.now (room_of records.old)) grant (recs_of records.old) Going result.reply (recs_of records.new) result.end }
 {
     let mut opened = 0;
-    while let Some(first) = records.choice() {
+    while let Some(first) = choice(records.rows()) {
         if arrives(task, &first) {
-            return arrived(&first, opened, trail_length(records, first.number));
+            return arrived(&first, opened, trail_length(records.rows(), first.number));
         }
         if is_used_up(opened, grant) {
             return paused(&first, opened);

@@ -7,6 +7,7 @@ ghost use Rattle.runs.specs.Ends.{Retells};
 use crate::holding::Holding;
 use crate::trails::trail_length;
 use costs::Tally;
+use records::read;
 use theory::{End, Kind, Reply};
 
 // The reply of a search that has ended, and none of one that has not.
@@ -18,8 +19,8 @@ pub fn tell<V: Tally>(holding: &Holding<'_, V>) -> Option<Reply<V>>
         End::Planned(number) => Some(Reply {
             kind: Kind::Plan,
             opened: 0,
-            value: holding.records.get(number)?.spent,
-            length: trail_length(&holding.records, number),
+            value: read(holding.records.rows(), number).spent,
+            length: trail_length(holding.records.rows(), number),
         }),
         End::Exhausted => Some(Reply {
             kind: Kind::NoPlan,
@@ -30,7 +31,7 @@ pub fn tell<V: Tally>(holding: &Holding<'_, V>) -> Option<Reply<V>>
         End::Filled(number) => Some(Reply {
             kind: Kind::Full,
             opened: 0,
-            value: holding.records.get(number)?.promise,
+            value: read(holding.records.rows(), number).promise,
             length: 0,
         }),
     }

@@ -1,11 +1,9 @@
 // The way from a record through the parents to record 0: the moves of a plan, in the order of carrying out.
 ghost use Rattle.std.specs.Prelude.{◌≡◌, ℕ, ◌≤◌, List, ◌++◌, length, drop};
 ghost use Rattle.theory.specs.Runs.{Trail as IsTrail};
-ghost use Rattle.records.specs.Tables.{recs_of};
 ghost use Rattle.runs.specs.Trails.{Steps};
 
 use costs::Tally;
-use records::Records;
 use theory::Record;
 
 // The moves from here on. Among records whose parents went round in a circle it would not end.
@@ -31,28 +29,16 @@ impl<V: Tally> Iterator for Trail<'_, V> {
 }
 
 // How many moves lead from a record to record 0. No way has more than there are records.
-pub fn trail_length<V: Tally>(records: &Records<'_, V>, from: u16) -> u16
-    ensures { (l : List ℕ) → IsTrail (recs_of records.now) from l → length l ≤ length (recs_of records.now) → result ≡ length l }
+pub fn trail_length<V: Tally>(rows: &[Record<V>], from: u16) -> u16
+    requires { length rows.now ≤ 65535 }
+    ensures { (l : List ℕ) → IsTrail rows.now from l → length l ≤ length rows.now → result ≡ length l }
 {
-    count_moves(records.rows(), from) as u16
+    let trail = Trail { rows, at: from };
+    trail.take(rows.len()).count() as u16
 }
 
 // Writes these moves into the front of the list, as far as it goes; its later places stay.
-pub fn copy_trail<V: Tally>(records: &Records<'_, V>, from: u16, list: &mut [u16])
-    ensures { (l : List ℕ) → IsTrail (recs_of records.now) from l → length l ≤ length list.old → list.new ≡ l ++ drop (length l) list.old }
-{
-    copy_moves(records.rows(), from, list);
-}
-
-fn count_moves<V: Tally>(rows: &[Record<V>], from: u16) -> usize
-    ensures few { result ≤ length rows.now }
-    ensures all { (l : List ℕ) → IsTrail rows.now from l → length l ≤ length rows.now → result ≡ length l }
-{
-    let trail = Trail { rows, at: from };
-    trail.take(rows.len()).count()
-}
-
-fn copy_moves<V: Tally>(rows: &[Record<V>], from: u16, list: &mut [u16])
+pub fn copy_trail<V: Tally>(rows: &[Record<V>], from: u16, list: &mut [u16])
     ensures { (l : List ℕ) → IsTrail rows.now from l → length l ≤ length list.old → list.new ≡ l ++ drop (length l) list.old }
 {
     let mut trail = Trail { rows, at: from }.take(list.len());

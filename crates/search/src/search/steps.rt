@@ -57,11 +57,12 @@ impl<'a, 't, V: Tally> Search<'a, 't, V> {
         let End::Planned(number) = self.holding.end else {
             return Err(Refusal::NotPlanned);
         };
-        let length = trail_length(&self.holding.records, number);
+        let rows = self.holding.records.rows();
+        let length = trail_length(rows, number);
         if list.len() < usize::from(length) {
             return Err(Refusal::ListTooShort);
         }
-        copy_trail(&self.holding.records, number, list);
+        copy_trail(rows, number, list);
         Ok(length)
     }
 

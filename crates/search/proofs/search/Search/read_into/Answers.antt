@@ -14,16 +14,16 @@ returns-in_default g c = (refl, λ made. by_rules _ c.in_ok-self.was (read_refus
 
 pub returns-then-list-from : goal.returns-then-list-from
 returns-then-list-from g c =
-    let way = plan_traced c.in-Planned.is c.args.self.now.holding.traced in
-    let long = c.trail_length-length.ensures way.moves way.trail way.short in
+    let way = plan_traced c.in-Planned.is c.args.self.now.traced in
+    let long = (rw c.rows-rows.ensures.rows at c.trail_length-length.ensures) way.moves way.trail way.short in
     (refl, λ made. by_rules _ c.in_ok-self.was (too_short _ c.in-Planned.is way.trail (omega (arith, long, c.from.ensures, c.if-list-from.true))))
 
 pub returns : goal.returns
 returns g c =
-    let way = plan_traced c.in-Planned.is c.args.self.now.holding.traced in
-    let long = c.trail_length-length.ensures way.moves way.trail way.short in
+    let way = plan_traced c.in-Planned.is c.args.self.now.traced in
+    let long = (rw c.rows-rows.ensures.rows at c.trail_length-length.ensures) way.moves way.trail way.short in
     let enough : length way.moves ≤ length c.args.list.now = omega (arith, long, c.from.ensures, c.if-list-from.false) in (
       way.moves,
-      record { told = long; written = c.copy_trail.ensures way.moves way.trail enough },
+      record { told = long; written = (rw c.rows-rows.ensures.rows at c.copy_trail.ensures) way.moves way.trail enough },
       λ made. by_rules _ c.in_ok-self.was (reads_list _ c.in-Planned.is way.trail enough),
     )

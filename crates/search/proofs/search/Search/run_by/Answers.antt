@@ -44,7 +44,7 @@ returns-clause-ran g c =
           (runs c.if-grant-gt65536.false (c.in_ok-judged.ensures.tells _ refl)
           (run_by (problem_in g.V.Tally s made) lent (record { fits = made.fits; estimate = lent.estimate; share = made.share }) (λ set. refl)
           (subst (λ n. Runs (problem_of g.V.Tally g.B.Bound s.task c.args.bound.now n) c.args.grant (recs_of old.records) old.end c.run.result (recs_of new.records) new.end)
-          (s.whole c.in_ok-self.was) c.run.ensures.ran.runs)));
+          (s.whole c.in_ok-self.was) (c.run.ensures.ran s.traced).runs)));
       grows = more_records c.in_ok-self.was _ _ _ _ c.run.ensures.grown.more;
       rest = past_records c.in_ok-self.was _ _ c.run.ensures.grown.untouched;
     }

@@ -3,7 +3,7 @@ use Rattle.std.proofs.lemmas.List.{set-get_or}
 use Rattle.theory.specs.Runs.{Trail}
 use Rattle.runs.specs.Trails.{Steps}
 use Rattle.runs.proofs.Trailing.{copied_more, copied_all, way_done}
-use Rattle.runs.proofs.trails.copy_moves.Goals as goal
+use Rattle.runs.proofs.trails.copy_trail.Goals as goal
 
 pub loop-place-preserved : goal.loop-place-preserved
 loop-place-preserved g c =

@@ -1,6 +1,6 @@
 use Rattle.std.proofs.Common.{◌≡◌, ◌+◌, length}
 use Rattle.runs.proofs.Trailing.{Copied}
-use Rattle.runs.proofs.trails.copy_moves.Given as goal
+use Rattle.runs.proofs.trails.copy_trail.Given as goal
 
 abbrev pub invariant-loop-place : goal.invariant-loop-place
 invariant-loop-place g l =
