@@ -81,8 +81,7 @@ loop-r-preserved-then-not-has g c =
     let touched = (c.concerned-others.ensures.told r (omega (arith, told, kept_range, ends, c.concerned-others.ensures.within))).0 (omega (arith, told, kept_range, starts), omega (arith, told, kept_range, ends)) in
     let is = c.offer-offer.ensures ∙ ap (offer_of tally b m) (top_sole laws c.with_beside.ensures (besides_top laws val m r) ∙ sym (target_estimate laws val m r)) in
     let kept = needs_kept laws b m r _ val (at_table new) offer is c.lower_pairs.ensures in
-    let base_was : c.highest_pair-base.result ≡ estimate_by_pairs tally val m.needs = top_sole laws c.loop-r.invariant.0 (pairs_top laws val m.needs) in
-    (
+    let base_was : c.highest_pair-base.result ≡ estimate_by_pairs tally val m.needs = top_sole laws c.loop-r.invariant.0 (pairs_top laws val m.needs) in (
       subst (Top tally (λ k. T (has m.needs k.0) × T (has m.needs k.1)) (at_table new)) (sym (base_was ∙ sym kept)) (pairs_top laws (at_table new) m.needs),
       (omega (arith, told, kept_range), told.0 ∙ kept_range.1),
       λ j at. let one = with_lowers laws b settled j m at r whole touched made c.without-heads.ensures val (at_table new) offer is c.lower_pairs.ensures (Upto a before) (Upto a after) (λ x h. ⊎_elim inl (λ e. inr (e ∙ sym told.1.1)) (one_more a before after x told.1.2 h)) in
@@ -101,8 +100,7 @@ loop-r-preserved g c =
     let before = c.loop-r.r-iterator.start in
     let after = c.next.new.self.start in
     let val = place_of (pairs g.V.Tally b) c.loop-r.table in
-    let broken : T (has m.breaks r) = from_true (sym c.has.ensures ∙ c.if-not-has.false) in
-    (
+    let broken : T (has m.breaks r) = from_true (sym c.has.ensures ∙ c.if-not-has.false) in (
       c.loop-r.invariant.0,
       (omega (arith, told, kept_range), told.0 ∙ kept_range.1),
       λ j at. let none = with_broken laws b c.args.settled j m at val (Upto a before) (Upto a after) r broken (λ x h. ⊎_elim inl (λ e. inr (e ∙ sym told.1.1)) (one_more a before after x told.1.2 h)) in
