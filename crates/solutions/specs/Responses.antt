@@ -4,7 +4,7 @@ use Rattle.tasks.specs.declared.draft.Draft.{Draft}
 use Rattle.tasks.specs.declared.task.Task.{Task}
 use Rattle.costs.specs.declared.minutes.Minutes.{Minutes}
 use Rattle.texts.specs.Files.{SaysTask}
-use Rattle.texts.specs.Refusals.{Refuses, text_of_refusal}
+use Rattle.texts.specs.Refusals.{Refuses, text_of_refused}
 use Rattle.texts.specs.declared.refused.Refused.{Refused}
 use Rattle.theory.specs.declared.reply.Reply.{Reply}
 use Rattle.solutions.specs.Solutions.{Says, ByRules, Solved}
@@ -26,5 +26,5 @@ pub record Answers (t : Task) (text : List ℕ) : Type 0 where
   pub bytes : text ≡ text_of_answer reply moves
 
 pub data Response (src text : List ℕ) : Type 0 where
-  refused : {r : Refused} → Refuses src r → text ≡ text_of_refusal r.number r.line → Response src text
+  refused : {r : Refused} → Refuses src r → text ≡ text_of_refused r → Response src text
   solved : {d : Draft} {t : Task} → SaysTask src d t → Answers t text → Response src text

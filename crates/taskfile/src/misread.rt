@@ -2,7 +2,7 @@
 ghost use Rattle.std.specs.Prelude.{◌≡◌};
 ghost use Rattle.taskfile.specs.Flaws.{number_of};
 
-#[derive(Clone, Copy, PartialEq, Eq)]
+#[derive(Clone, Copy, PartialEq, Eq, Debug)]
 pub enum Flaw {
     // the line that is due is not there, or bytes follow the last line
     WrongLine = 1,
@@ -22,7 +22,7 @@ impl Flaw {
     }
 }
 
-#[derive(Clone, Copy, PartialEq, Eq)]
+#[derive(Clone, Copy, PartialEq, Eq, Debug)]
 pub struct Misread {
     pub flaw: Flaw,
     // counted from 1; 0 for the file itself, as it is told

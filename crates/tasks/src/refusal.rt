@@ -2,7 +2,7 @@
 ghost use Rattle.std.specs.Prelude.{◌≡◌};
 ghost use Rattle.tasks.specs.Refusals.{number_of, place_of};
 
-#[derive(Clone, Copy, PartialEq, Eq)]
+#[derive(Clone, Copy, PartialEq, Eq, Debug)]
 pub enum Refusal {
     // a value is out of range
     OutOfRange = 3,
@@ -21,7 +21,7 @@ impl Refusal {
 }
 
 // Where a draft is at fault: two kinds of place, of which neither is the lack of one.
-#[derive(Clone, Copy, PartialEq, Eq)]
+#[derive(Clone, Copy, PartialEq, Eq, Debug)]
 pub enum Place {
     // the number of facts, the number of moves, the start or the goal
     Heading,
@@ -41,7 +41,7 @@ impl Place {
     }
 }
 
-#[derive(Clone, Copy, PartialEq, Eq)]
+#[derive(Clone, Copy, PartialEq, Eq, Debug)]
 pub struct Fault {
     pub refusal: Refusal,
     pub place: Place,

@@ -8,14 +8,15 @@ use Rattle.taskfile.specs.Flaws.{number_of as flaw_number}
 use Rattle.taskfile.specs.declared.misread.Misread.{Misread}
 use Rattle.texts.specs.Files.{Says, Misreads}
 use Rattle.texts.specs.declared.refused.Refused.{Refused}
+use Rattle.texts.specs.declared.refused.Refused.TheVariants.{File, Draft as OfDraft}
 
 -- the refusal of bytes that are no task file
 abbrev pub of_misread : Misread → Refused
-of_misread m = record { number = flaw_number m.flaw; line = m.line }
+of_misread m = File m
 
 -- the refusal of a draft with a fault
 abbrev pub of_fault : Fault → Refused
-of_fault e = record { number = fault_number e.refusal; line = 0 }
+of_fault e = OfDraft e
 
 -- the bytes are refused so: they are no task file, or the draft that they say has this first fault
 pub data Refuses (src : List ℕ) (r : Refused) : Type 0 where
@@ -25,3 +26,8 @@ pub data Refuses (src : List ℕ) (r : Refused) : Type 0 where
 -- a refusal, with its number and its line
 abbrev pub text_of_refusal : ℕ → ℕ → List ℕ
 text_of_refusal number line = codes "answer=refused\nnumber=" ++ (decimal number ++ (codes "\nline=" ++ (decimal line ++ codes "\n")))
+
+-- a refusal by its reason: a misread file has a line, a draft none
+abbrev pub text_of_refused : Refused → List ℕ
+text_of_refused (File m) = text_of_refusal (flaw_number m.flaw) m.line
+text_of_refused (OfDraft e) = text_of_refusal (fault_number e.refusal) 0

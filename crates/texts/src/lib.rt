@@ -1,4 +1,4 @@
-// What every program prints of a file: lists in a line, and why it is refused.
+// What every program does with a file: reads and checks it, and prints lists and refusals.
 #![tactic(auto)]
 
 mod drafts;

@@ -1,26 +1,24 @@
-// Why a file is refused, as it is told and printed.
+// Why a file is refused, and how that is printed.
 ghost use Rattle.std.specs.Prelude.{◌≡◌, Some};
-ghost use Rattle.texts.specs.Refusals.{of_misread, of_fault, text_of_refusal};
+ghost use Rattle.texts.specs.Refusals.{of_misread, of_fault, text_of_refused};
 
 use std::fmt;
 use taskfile::Misread;
 use tasks::Fault;
 
-// The number of the refusal, and the line of the file at fault, 0 where it is none.
 #[derive(Clone, Copy, PartialEq, Eq, Debug)]
-pub struct Refused {
-    pub number: u16,
-    pub line: u32,
+pub enum Refused {
+    // the bytes are no task file
+    File(Misread),
+    // the draft that they say has a fault
+    Draft(Fault),
 }
 
 impl From<Misread> for Refused {
     ghost from_gives = { λ misread refused. refused ≡ of_misread misread };
 
     fn from(misread: Misread) -> Refused {
-        Refused {
-            number: misread.flaw.number(),
-            line: misread.line,
-        }
+        Refused::File(misread)
     }
 }
 
@@ -28,18 +26,19 @@ impl From<Fault> for Refused {
     ghost from_gives = { λ fault refused. refused ≡ of_fault fault };
 
     fn from(fault: Fault) -> Refused {
-        Refused {
-            number: fault.refusal.number(),
-            line: 0,
-        }
+        Refused::Draft(fault)
     }
 }
 
+// The number of the refusal, and the line of the file at fault, 0 where it is none.
 impl fmt::Display for Refused {
-    ghost output = { λ refused. Some (text_of_refusal refused.number refused.line) };
+    ghost output = { λ refused. Some (text_of_refused refused) };
 
     fn fmt<W: fmt::Write>(&self, f: &mut fmt::Formatter<W>) -> fmt::Result {
-        let Refused { number, line } = *self;
+        let (number, line) = match *self {
+            Refused::File(misread) => (misread.flaw.number(), misread.line),
+            Refused::Draft(fault) => (fault.refusal.number(), 0),
+        };
         write!(f, "answer=refused\nnumber={number}\nline={line}\n")
     }
 }

@@ -1,5 +1,5 @@
 // What a run tells: the search goes on, or how it has ended.
-#[derive(Clone, Copy, PartialEq, Eq)]
+#[derive(Clone, Copy, PartialEq, Eq, Debug)]
 pub enum Kind {
     // the grant is used up
     Pending,
@@ -12,7 +12,7 @@ pub enum Kind {
 }
 
 // The answer of a run. Its four parts, nil and 0 where a kind has none, are what two answers are compared by.
-#[derive(Clone, Copy)]
+#[derive(Clone, Copy, PartialEq, Eq, Debug)]
 pub struct Reply<V> {
     pub kind: Kind,
     // how many openings this run has made
@@ -24,7 +24,7 @@ pub struct Reply<V> {
 }
 
 // How a search stands between runs, with the record that its end tells of.
-#[derive(Clone, Copy, PartialEq, Eq)]
+#[derive(Clone, Copy, PartialEq, Eq, Debug)]
 pub enum End {
     // it has not ended
     Going,

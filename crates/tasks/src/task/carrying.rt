@@ -9,7 +9,7 @@ use crate::moves::Move;
 use facts::FactSet;
 
 // Where a list leads when all its moves are done.
-#[derive(Clone, Copy, PartialEq, Eq)]
+#[derive(Clone, Copy, PartialEq, Eq, Debug)]
 pub struct Arrival {
     // the facts that stand then
     pub facts: FactSet,
@@ -18,7 +18,7 @@ pub struct Arrival {
 }
 
 // A list that cannot be carried out to its end.
-#[derive(Clone, Copy, PartialEq, Eq)]
+#[derive(Clone, Copy, PartialEq, Eq, Debug)]
 pub struct Stuck {
     // the first place in the list whose move cannot be carried out, or whose number is no move
     pub at: usize,
