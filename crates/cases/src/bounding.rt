@@ -1,3 +1,4 @@
+use crate::{minutes, worst};
 use bounds::{Blind, Bound, Higher, Sum, is_overdrawn};
 use costs::{Estimate, Minutes, Worst};
 use facts::FactSet;
@@ -8,35 +9,26 @@ use std::test::Fail;
 use tables::{One, Pair, Single, Two, work_out};
 use tasks::{Draft, Move};
 
-// The minutes, `None` for never.
-fn minutes(estimate: Estimate<Minutes>) -> Option<u32> {
-    estimate.map(|cost| cost.total)
-}
-
-fn highest(estimate: Estimate<Worst>) -> Option<u16> {
-    estimate.map(|cost| cost.highest)
-}
-
 // The single table's estimate of the goal, with these groups counted.
-fn single(rt: &impl Abort, groups: u8) -> Result<Option<u32>, Fail> {
+fn single(rt: &impl Abort, groups: u8) -> Result<Estimate<Minutes>, Fail> {
     let moves = two_moves()?;
     let task = task_of(draft_of(&moves)?)?;
     let mut table: [Estimate<Minutes>; 3] = [None; 3];
     assert!(rt; work_out::<One, Minutes>(&task, groups, &mut table).is_ok());
-    Ok(minutes(Single::of(&task, groups, &table).estimate(task.goal())))
+    Ok(Single::of(&task, groups, &table).estimate(task.goal()))
 }
 
 // The pair table's estimate of a set, with all groups counted.
-fn pair(rt: &impl Abort, set: FactSet) -> Result<Option<u32>, Fail> {
+fn pair(rt: &impl Abort, set: FactSet) -> Result<Estimate<Minutes>, Fail> {
     let moves = two_moves()?;
     let task = task_of(draft_of(&moves)?)?;
     let mut table: [Estimate<Minutes>; 9] = [None; 9];
     assert!(rt; work_out::<Two, Minutes>(&task, 255, &mut table).is_ok());
-    Ok(minutes(Pair::of(&task, 255, &table).estimate(set)))
+    Ok(Pair::of(&task, 255, &table).estimate(set))
 }
 
 // The sum of two single tables: its estimate of the goal, and whether it is overdrawn.
-fn sum(rt: &impl Abort, one: u8, other: u8) -> Result<(Option<u32>, bool), Fail> {
+fn sum(rt: &impl Abort, one: u8, other: u8) -> Result<(Estimate<Minutes>, bool), Fail> {
     let moves = two_moves()?;
     let task = task_of(draft_of(&moves)?)?;
     let mut first: [Estimate<Minutes>; 3] = [None; 3];
@@ -48,20 +40,17 @@ fn sum(rt: &impl Abort, one: u8, other: u8) -> Result<(Option<u32>, bool), Fail>
         other: Single::of(&task, other, &second),
     };
     assert!(rt; both.fits(&task));
-    Ok((
-        minutes(both.estimate(task.goal())),
-        is_overdrawn(&both, &task),
-    ))
+    Ok((both.estimate(task.goal()), is_overdrawn(&both, &task)))
 }
 
 #[test]
 fn estimates_of_the_goal(rt: HostRuntime) -> Result<(), Fail> {
-    assert_eq!(rt; single(&rt, 255)?, Some(15));
-    assert_eq!(rt; sum(&rt, 1, 2)?, (Some(19), false));
-    assert_eq!(rt; sum(&rt, 255, 2)?, (Some(19), true));
-    assert_eq!(rt; pair(&rt, set_of(&[1, 2])?)?, Some(19));
+    assert_eq!(rt; single(&rt, 255)?, Some(minutes(15)));
+    assert_eq!(rt; sum(&rt, 1, 2)?, (Some(minutes(19)), false));
+    assert_eq!(rt; sum(&rt, 255, 2)?, (Some(minutes(19)), true));
+    assert_eq!(rt; pair(&rt, set_of(&[1, 2])?)?, Some(minutes(19)));
     assert_eq!(rt; pair(&rt, set_of(&[3])?)?, None);
-    assert_eq!(rt; pair(&rt, FactSet::empty())?, Some(0));
+    assert_eq!(rt; pair(&rt, FactSet::empty())?, Some(minutes(0)));
     Ok(())
 }
 
@@ -78,23 +67,23 @@ fn sums_in_worst(rt: HostRuntime) -> Result<(), Fail> {
         other: Single::of(&task, 2, &second),
     };
     assert!(rt; both.fits(&task) && !is_overdrawn(&both, &task));
-    assert_eq!(rt; highest(both.estimate(task.goal())), Some(15));
+    assert_eq!(rt; both.estimate(task.goal()), Some(worst(15)));
     Ok(())
 }
 
 // The pair table's estimate of the goal in worst, with these groups counted.
-fn worst_pair(rt: &impl Abort, groups: u8) -> Result<Option<u16>, Fail> {
+fn worst_pair(rt: &impl Abort, groups: u8) -> Result<Estimate<Worst>, Fail> {
     let moves = two_moves()?;
     let task = task_of(draft_of(&moves)?)?;
     let mut table: [Estimate<Worst>; 9] = [None; 9];
     assert!(rt; work_out::<Two, Worst>(&task, groups, &mut table).is_ok());
-    Ok(highest(Pair::of(&task, groups, &table).estimate(task.goal())))
+    Ok(Pair::of(&task, groups, &table).estimate(task.goal()))
 }
 
 #[test]
 fn pairs_in_worst(rt: HostRuntime) -> Result<(), Fail> {
-    assert_eq!(rt; worst_pair(&rt, 255)?, Some(15));
-    assert_eq!(rt; worst_pair(&rt, 2)?, Some(4));
+    assert_eq!(rt; worst_pair(&rt, 255)?, Some(worst(15)));
+    assert_eq!(rt; worst_pair(&rt, 2)?, Some(worst(4)));
     Ok(())
 }
 
@@ -117,7 +106,7 @@ fn a_pile_of_bounds(rt: HostRuntime) -> Result<(), Fail> {
         other: blind,
     };
     assert!(rt; pile.fits(&task) && !is_overdrawn(&pile, &task));
-    assert_eq!(rt; minutes(pile.estimate(task.goal())), Some(19));
+    assert_eq!(rt; pile.estimate(task.goal()), Some(minutes(19)));
     Ok(())
 }
 
@@ -143,8 +132,7 @@ fn moves_that_need_each_other(rt: HostRuntime) -> Result<(), Fail> {
     })?;
     let mut table: [Estimate<Minutes>; 2] = [None; 2];
     assert!(rt; work_out::<One, Minutes>(&task, 255, &mut table).is_ok());
-    assert_eq!(rt; minutes(table[0]), None);
-    assert_eq!(rt; minutes(table[1]), None);
+    assert_eq!(rt; table, [None, None]);
     Ok(())
 }
 
@@ -163,7 +151,7 @@ fn pairs_fit(table: [Estimate<Minutes>; 9]) -> Result<bool, Fail> {
 }
 
 fn value(total: u32) -> Estimate<Minutes> {
-    Some(Minutes { total })
+    Some(minutes(total))
 }
 
 #[test]
@@ -251,9 +239,6 @@ fn short_tables(rt: HostRuntime) -> Result<(), Fail> {
     let task = task_of(draft_of(&moves)?)?;
     let mut table = [value(0), value(15)];
     assert!(rt; work_out::<One, Minutes>(&task, 255, &mut table).is_err());
-    assert_eq!(rt;
-        minutes(Single::of(&task, 255, &table).estimate(task.goal())),
-        None
-    );
+    assert_eq!(rt; Single::of(&task, 255, &table).estimate(task.goal()), None);
     Ok(())
 }

@@ -1,13 +1,11 @@
 use facts::FactSet;
 use samples::{draft_of, move_of, set_of, task_of};
 use std::test::Fail;
-use tasks::{Draft, Move, Task};
+use tasks::{Arrival, Draft, Fault, Move, Place, Refusal, Stuck, check};
 
-// The number and the move of the refusal, or `None` where the draft passes.
-fn refused(draft: Draft<'_>) -> Option<(u16, u16)> {
-    tasks::check(draft)
-        .err()
-        .map(|fault| (fault.refusal.number(), fault.place.number()))
+// What is at fault in a draft, as its check tells.
+fn fault(refusal: Refusal, place: Place) -> Option<Fault> {
+    Some(Fault { refusal, place })
 }
 
 #[test]
@@ -19,51 +17,65 @@ fn lowest_number_first(rt: HostRuntime) -> Result<(), Fail> {
     let start = set_of(&[0])?;
     let goal = set_of(&[1])?;
     assert_eq!(rt;
-        refused(Draft {
+        check(Draft {
             facts: 3,
             start,
             goal,
             moves: &[both, strange, fine, grouped],
-        }),
-        Some((3, 3))
+        })
+        .err(),
+        fault(Refusal::OutOfRange, Place::Move(3))
     );
     assert_eq!(rt;
-        refused(Draft {
+        check(Draft {
             facts: 3,
             start,
             goal,
             moves: &[both, fine, strange, both],
-        }),
-        Some((5, 2))
+        })
+        .err(),
+        fault(Refusal::UnknownFact, Place::Move(2))
     );
     assert_eq!(rt;
-        refused(Draft {
+        check(Draft {
             facts: 3,
             start,
             goal: set_of(&[3])?,
             moves: &[both, strange],
-        }),
-        Some((5, 65_535))
+        })
+        .err(),
+        fault(Refusal::UnknownFact, Place::Heading)
     );
     assert_eq!(rt;
-        refused(Draft {
+        check(Draft {
             facts: 3,
             start,
             goal,
             moves: &[fine, both, both],
-        }),
-        Some((6, 1))
+        })
+        .err(),
+        fault(Refusal::MakesAndBreaks, Place::Move(1))
     );
     assert_eq!(rt;
-        refused(Draft {
+        check(Draft {
             facts: 3,
             start,
             goal,
             moves: &[fine, fine],
-        }),
+        })
+        .err(),
         None
     );
     Ok(())
+}
+
+#[test]
+fn numbers_told(rt: HostRuntime) {
+    assert_eq!(rt; Refusal::OutOfRange.number(), 3);
+    assert_eq!(rt; Refusal::UnknownFact.number(), 5);
+    assert_eq!(rt; Refusal::MakesAndBreaks.number(), 6);
+    assert_eq!(rt; Place::Heading.number(), 65_535);
+    assert_eq!(rt; Place::Move(3).number(), 3);
 }
 
 #[test]
@@ -71,40 +83,44 @@ fn numbers_of_facts(rt: HostRuntime) -> Result<(), Fail> {
     let start = set_of(&[63])?;
     let goal = FactSet::empty();
     assert_eq!(rt;
-        refused(Draft {
+        check(Draft {
             facts: 64,
             start,
             goal,
             moves: &[],
-        }),
+        })
+        .err(),
         None
     );
     assert_eq!(rt;
-        refused(Draft {
+        check(Draft {
             facts: 63,
             start,
             goal,
             moves: &[],
-        }),
-        Some((5, 65_535))
+        })
+        .err(),
+        fault(Refusal::UnknownFact, Place::Heading)
     );
     assert_eq!(rt;
-        refused(Draft {
+        check(Draft {
             facts: 65,
             start,
             goal,
             moves: &[],
-        }),
-        Some((3, 65_535))
+        })
+        .err(),
+        fault(Refusal::OutOfRange, Place::Heading)
     );
     assert_eq!(rt;
-        refused(Draft {
+        check(Draft {
             facts: 0,
             start,
             goal,
             moves: &[],
-        }),
-        Some((3, 65_535))
+        })
+        .err(),
+        fault(Refusal::OutOfRange, Place::Heading)
     );
     Ok(())
 }
@@ -115,42 +131,45 @@ fn numbers_of_moves(rt: HostRuntime) -> Result<(), Fail> {
     let goal = FactSet::empty();
     let m = move_of(&[], &[0], &[])?;
     assert_eq!(rt;
-        refused(Draft {
+        check(Draft {
             facts: 1,
             start,
             goal,
             moves: &[m; 1024],
-        }),
+        })
+        .err(),
         None
     );
     assert_eq!(rt;
-        refused(Draft {
+        check(Draft {
             facts: 1,
             start,
             goal,
             moves: &[m; 1025],
-        }),
-        Some((3, 65_535))
+        })
+        .err(),
+        fault(Refusal::OutOfRange, Place::Heading)
     );
     Ok(())
 }
 
-// What carrying out comes to: the facts at the end and whether the goal stands, or where it gets stuck.
-fn carried(task: &Task<'_>, list: &[u16]) -> Result<(FactSet, bool), usize> {
-    task.carry(list)
-        .map(|end| (end.facts, end.goal))
-        .map_err(|stuck| stuck.at)
+// The end of a list that leads to these facts; whether the goal stands there.
+fn arrival(facts: &[u8], goal: bool) -> Result<Result<Arrival, Stuck>, Fail> {
+    Ok(Ok(Arrival {
+        facts: set_of(facts)?,
+        goal,
+    }))
 }
 
 #[test]
 fn lists_carried_out(rt: HostRuntime) -> Result<(), Fail> {
     let moves = [move_of(&[0], &[1], &[0])?, move_of(&[], &[2], &[])?];
     let task = task_of(draft_of(&moves)?)?;
-    assert_eq!(rt; carried(&task, &[0, 1]), Ok((set_of(&[1, 2])?, true)));
-    assert_eq!(rt; carried(&task, &[1]), Ok((set_of(&[0, 2])?, false)));
-    assert_eq!(rt; carried(&task, &[]), Ok((set_of(&[0])?, false)));
-    assert_eq!(rt; carried(&task, &[1, 0, 0]), Err(2));
-    assert_eq!(rt; carried(&task, &[2]), Err(0));
+    assert_eq!(rt; task.carry(&[0, 1]), arrival(&[1, 2], true)?);
+    assert_eq!(rt; task.carry(&[1]), arrival(&[0, 2], false)?);
+    assert_eq!(rt; task.carry(&[]), arrival(&[0], false)?);
+    assert_eq!(rt; task.carry(&[1, 0, 0]), Err(Stuck { at: 2 }));
+    assert_eq!(rt; task.carry(&[2]), Err(Stuck { at: 0 }));
     Ok(())
 }
 
@@ -163,7 +182,7 @@ fn empty_goal(rt: HostRuntime) -> Result<(), Fail> {
         moves: &[],
     };
     let task = task_of(draft)?;
-    assert_eq!(rt; carried(&task, &[]), Ok((set_of(&[0])?, true)));
+    assert_eq!(rt; task.carry(&[]), arrival(&[0], true)?);
     Ok(())
 }
 

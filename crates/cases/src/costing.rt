@@ -1,45 +1,26 @@
+use crate::{minutes, worst};
 use costs::{Estimate, Minutes, Tally, Worst, list_cost};
 use facts::FactSet;
 use samples::{move_of, task_of};
 use std::test::Fail;
-use tasks::{Draft, Move, Task};
-
-fn minutes(total: u32) -> Minutes {
-    Minutes { total }
-}
+use tasks::{Draft, Move};
 
 #[test]
 fn minutes_stay_at_the_ceiling(rt: HostRuntime) {
-    assert_eq!(rt; minutes(15).join(minutes(4)).total, 19);
-    assert_eq!(rt;
-        minutes(4_294_967_295).join(minutes(1)).total,
-        4_294_967_295
-    );
-    assert_eq!(rt;
-        minutes(4_294_967_294).join(minutes(1)).total,
-        4_294_967_295
-    );
-    assert_eq!(rt;
-        minutes(4_294_967_295).join(minutes(4_294_967_295)).total,
-        4_294_967_295
-    );
+    assert_eq!(rt; minutes(15).join(minutes(4)), minutes(19));
+    let most = minutes(4_294_967_295);
+    assert_eq!(rt; most.join(minutes(1)), most);
+    assert_eq!(rt; minutes(4_294_967_294).join(minutes(1)), most);
+    assert_eq!(rt; most.join(most), most);
     assert!(rt; Minutes::nil().at_most(minutes(0)) && !minutes(1).at_most(minutes(0)));
-    assert_eq!(rt; Minutes::charge(65_535, 7).total, 65_535);
+    assert_eq!(rt; Minutes::charge(65_535, 7), minutes(65_535));
 }
 
 #[test]
 fn worst_takes_the_larger(rt: HostRuntime) {
-    assert_eq!(rt;
-        Worst { highest: 15 }.join(Worst { highest: 4 }).highest,
-        15
-    );
-    assert_eq!(rt; Worst::nil().highest, 0);
-    assert_eq!(rt; Worst::charge(65_535, 0).highest, 65_535);
-}
-
-// The total, or `None` for never.
-fn total(estimate: Estimate<Minutes>) -> Option<u32> {
-    estimate.map(|cost| cost.total)
+    assert_eq!(rt; worst(15).join(worst(4)), worst(15));
+    assert_eq!(rt; Worst::nil(), worst(0));
+    assert_eq!(rt; Worst::charge(65_535, 0), worst(65_535));
 }
 
 #[test]
@@ -47,16 +28,11 @@ fn never_is_above_all(rt: HostRuntime) {
     let some = Some(minutes(4));
     let never: Estimate<Minutes> = None;
     assert!(rt; some.at_most(never) && !never.at_most(some) && never.at_most(never));
-    assert_eq!(rt; total(some.join(never)), None);
-    assert_eq!(rt; total(never.join(some)), None);
-    assert_eq!(rt; total(some.join(some)), Some(8));
-    assert_eq!(rt; total(some.larger(never)), None);
-    assert_eq!(rt; total(some.smaller(never)), Some(4));
-}
-
-// What the list costs in minutes, `None` where a number is no move.
-fn minutes_of(task: &Task<'_>, list: &[u16]) -> Option<u32> {
-    list_cost::<Minutes>(task, list).map(|cost| cost.total)
+    assert_eq!(rt; some.join(never), None);
+    assert_eq!(rt; never.join(some), None);
+    assert_eq!(rt; some.join(some), Some(minutes(8)));
+    assert_eq!(rt; some.larger(never), None);
+    assert_eq!(rt; some.smaller(never), Some(minutes(4)));
 }
 
 #[test]
@@ -77,14 +53,9 @@ fn costs_of_lists(rt: HostRuntime) -> Result<(), Fail> {
         moves: &moves,
     };
     let task = task_of(draft)?;
-    assert_eq!(rt; minutes_of(&task, &[0, 1, 1]), Some(23));
-    assert_eq!(rt; minutes_of(&task, &[]), Some(0));
-    assert_eq!(rt; minutes_of(&task, &[0, 2]), None);
-    assert_eq!(rt;
-        list_cost::<Worst>(&task, &[1, 0, 1])
-            .ok_or("unknown")?
-            .highest,
-        15
-    );
+    assert_eq!(rt; list_cost(&task, &[0, 1, 1]), Some(minutes(23)));
+    assert_eq!(rt; list_cost(&task, &[]), Some(minutes(0)));
+    assert_eq!(rt; list_cost::<Minutes>(&task, &[0, 2]), None);
+    assert_eq!(rt; list_cost(&task, &[1, 0, 1]), Some(worst(15)));
     Ok(())
 }

@@ -11,3 +11,16 @@ mod costing;
 mod reading;
 #[cfg(test)]
 mod sets;
+
+#[cfg(test)]
+use costs::{Minutes, Worst};
+
+#[cfg(test)]
+fn minutes(total: u32) -> Minutes {
+    Minutes { total }
+}
+
+#[cfg(test)]
+fn worst(highest: u16) -> Worst {
+    Worst { highest }
+}

@@ -5,7 +5,8 @@ use samples::set_of;
 use std::alloc::{AllocError, Global};
 use std::process::Abort;
 use std::test::Fail;
-use taskfile::{Heading, Misread, read};
+use taskfile::Flaw::{Malformed, OutOfRange, TooManyMoves, WrongLine};
+use taskfile::{Flaw, Misread, read};
 use tasks::Move;
 
 // A place that nothing was written to.
@@ -38,37 +39,35 @@ const LINES: [&str; 14] = [
     "breaks=\n",
 ];
 
-// The small task with another text for the line `at`; at 14, after its last line.
-fn file_with(heap: Global, at: usize, text: &[u8]) -> Result<Vec<u8>, AllocError> {
+// The small task with another text for the line `at`; `None` puts the text after its last line.
+fn file_with(heap: Global, at: Option<usize>, text: &[u8]) -> Result<Vec<u8>, AllocError> {
     let mut file = Vec::new(heap);
     for (i, line) in LINES.iter().enumerate() {
-        file.extend_from_slice(if i == at { text } else { line.as_bytes() })?;
+        file.extend_from_slice(if at == Some(i) { text } else { line.as_bytes() })?;
     }
-    if at == LINES.len() {
+    if at.is_none() {
         file.extend_from_slice(text)?;
     }
     Ok(file)
 }
 
-// Number and line of the refusal, `None` where the bytes are read, into a list of four places.
-fn refused(bytes: &[u8]) -> Option<(u16, u32)> {
+// Why the bytes are refused, `None` where they are read, into a list of four places.
+fn refused(bytes: &[u8]) -> Option<Misread> {
     let mut moves = [untouched(); 4];
-    told(read(bytes, &mut moves))
+    read(bytes, &mut moves).err()
 }
 
-fn told(outcome: Result<Heading, Misread>) -> Option<(u16, u32)> {
-    outcome
-        .err()
-        .map(|misread| (misread.flaw.number(), misread.line))
+fn misread(flaw: Flaw, line: u32) -> Option<Misread> {
+    Some(Misread { flaw, line })
 }
 
 // Checks what comes of the small task with that line replaced.
 fn expect(
     rt: &impl Abort,
     heap: Global,
-    at: usize,
+    at: Option<usize>,
     text: &[u8],
-    outcome: Option<(u16, u32)>,
+    outcome: Option<Misread>,
 ) -> Result<(), Fail> {
     let file = file_with(heap, at, text)?;
     assert_eq!(rt; refused(file.as_slice()), outcome);
@@ -77,7 +76,7 @@ fn expect(
 
 #[test]
 fn small_task(rt: HostRuntime) -> Result<(), Fail> {
-    let file = file_with(rt.alloc(), 15, b"")?;
+    let file = file_with(rt.alloc(), None, b"")?;
     let mut moves = [untouched(); 4];
     let heading = read(file.as_slice(), &mut moves).map_err(|_| "refused")?;
     assert!(rt; heading.facts == 3 && heading.count == 2);
@@ -92,9 +91,10 @@ fn small_task(rt: HostRuntime) -> Result<(), Fail> {
 #[test]
 fn a_wrong_key_in_each_place(rt: HostRuntime) -> Result<(), Fail> {
     for at in 0..14u8 {
-        let first = Some((1, u32::from(at) + 1));
-        expect(&rt, rt.alloc(), usize::from(at), b"fact=3\n", first)?;
-        expect(&rt, rt.alloc(), usize::from(at), b"", first)?;
+        let first = misread(WrongLine, u32::from(at) + 1);
+        let line = Some(usize::from(at));
+        expect(&rt, rt.alloc(), line, b"fact=3\n", first)?;
+        expect(&rt, rt.alloc(), line, b"", first)?;
     }
     Ok(())
 }
@@ -102,54 +102,57 @@ fn a_wrong_key_in_each_place(rt: HostRuntime) -> Result<(), Fail> {
 #[test]
 fn line_ends(rt: HostRuntime) -> Result<(), Fail> {
     let heap = rt.alloc();
-    assert_eq!(rt; refused(b""), Some((1, 1)));
-    expect(&rt, heap, 13, b"breaks=", Some((1, 14)))?;
-    expect(&rt, heap, 14, b"\n", Some((1, 15)))?;
-    expect(&rt, heap, 14, b"x", Some((1, 15)))?;
-    expect(&rt, heap, 0, b"facts=3\r\n", Some((2, 1)))?;
-    expect(&rt, heap, 0, b"facts=3\0\n", Some((2, 1)))?;
-    expect(&rt, heap, 0, b"\0facts=3\n", Some((1, 1)))?;
-    expect(&rt, heap, 0, b"facts 3\n", Some((1, 1)))
+    assert_eq!(rt; refused(b""), misread(WrongLine, 1));
+    expect(&rt, heap, Some(13), b"breaks=", misread(WrongLine, 14))?;
+    expect(&rt, heap, None, b"\n", misread(WrongLine, 15))?;
+    expect(&rt, heap, None, b"x", misread(WrongLine, 15))?;
+    expect(&rt, heap, Some(0), b"facts=3\r\n", misread(Malformed, 1))?;
+    expect(&rt, heap, Some(0), b"facts=3\0\n", misread(Malformed, 1))?;
+    expect(&rt, heap, Some(0), b"\0facts=3\n", misread(WrongLine, 1))?;
+    expect(&rt, heap, Some(0), b"facts 3\n", misread(WrongLine, 1))
 }
 
 #[test]
 fn numbers(rt: HostRuntime) -> Result<(), Fail> {
     let heap = rt.alloc();
-    expect(&rt, heap, 5, b"price=015\n", Some((2, 6)))?;
-    expect(&rt, heap, 5, b"price=\n", Some((2, 6)))?;
-    expect(&rt, heap, 5, b"price=1x\n", Some((2, 6)))?;
-    expect(&rt, heap, 5, b"price=100000\n", Some((2, 6)))?;
-    expect(&rt, heap, 5, b"price=65536\n", Some((3, 6)))?;
-    expect(&rt, heap, 5, b"price=65535\n", None)?;
-    expect(&rt, heap, 4, b"group=8\n", Some((3, 5)))?;
-    expect(&rt, heap, 0, b"facts=65\n", Some((3, 1)))?;
-    expect(&rt, heap, 0, b"facts=0\n", Some((3, 1)))?;
-    expect(&rt, heap, 1, b"moves=1025\n", Some((3, 2)))?;
-    expect(&rt, heap, 1, b"moves=5\n", Some((4, 2)))?;
-    expect(&rt, heap, 1, b"moves=4\n", Some((1, 15)))
+    expect(&rt, heap, Some(5), b"price=015\n", misread(Malformed, 6))?;
+    expect(&rt, heap, Some(5), b"price=\n", misread(Malformed, 6))?;
+    expect(&rt, heap, Some(5), b"price=1x\n", misread(Malformed, 6))?;
+    expect(&rt, heap, Some(5), b"price=100000\n", misread(Malformed, 6))?;
+    expect(&rt, heap, Some(5), b"price=65536\n", misread(OutOfRange, 6))?;
+    expect(&rt, heap, Some(5), b"price=65535\n", None)?;
+    expect(&rt, heap, Some(4), b"group=8\n", misread(OutOfRange, 5))?;
+    expect(&rt, heap, Some(0), b"facts=65\n", misread(OutOfRange, 1))?;
+    expect(&rt, heap, Some(0), b"facts=0\n", misread(OutOfRange, 1))?;
+    expect(&rt, heap, Some(1), b"moves=1025\n", misread(OutOfRange, 2))?;
+    expect(&rt, heap, Some(1), b"moves=5\n", misread(TooManyMoves, 2))?;
+    expect(&rt, heap, Some(1), b"moves=4\n", misread(WrongLine, 15))
 }
 
 #[test]
 fn sets(rt: HostRuntime) -> Result<(), Fail> {
     let heap = rt.alloc();
-    expect(&rt, heap, 2, b"start=3\n", None)?;
-    expect(&rt, heap, 2, b"start=0,63\n", None)?;
-    expect(&rt, heap, 2, b"start=1,1\n", Some((2, 3)))?;
-    expect(&rt, heap, 2, b"start=2,1\n", Some((2, 3)))?;
-    expect(&rt, heap, 2, b"start=1,\n", Some((2, 3)))?;
-    expect(&rt, heap, 2, b"start=,1\n", Some((2, 3)))?;
-    expect(&rt, heap, 2, b"start=1,,2\n", Some((2, 3)))?;
-    expect(&rt, heap, 2, b"start=100000\n", Some((2, 3)))?;
-    expect(&rt, heap, 2, b"start=64\n", Some((3, 3)))?;
-    expect(&rt, heap, 2, b"start=64,\n", Some((2, 3)))?;
-    expect(&rt, heap, 2, b"start=64,05\n", Some((2, 3)))
+    expect(&rt, heap, Some(2), b"start=3\n", None)?;
+    expect(&rt, heap, Some(2), b"start=0,63\n", None)?;
+    expect(&rt, heap, Some(2), b"start=1,1\n", misread(Malformed, 3))?;
+    expect(&rt, heap, Some(2), b"start=2,1\n", misread(Malformed, 3))?;
+    expect(&rt, heap, Some(2), b"start=1,\n", misread(Malformed, 3))?;
+    expect(&rt, heap, Some(2), b"start=,1\n", misread(Malformed, 3))?;
+    expect(&rt, heap, Some(2), b"start=1,,2\n", misread(Malformed, 3))?;
+    expect(&rt, heap, Some(2), b"start=100000\n", misread(Malformed, 3))?;
+    expect(&rt, heap, Some(2), b"start=64\n", misread(OutOfRange, 3))?;
+    expect(&rt, heap, Some(2), b"start=64,\n", misread(Malformed, 3))?;
+    expect(&rt, heap, Some(2), b"start=64,05\n", misread(Malformed, 3))
 }
 
 #[test]
 fn moves_read_whole_stay(rt: HostRuntime) -> Result<(), Fail> {
-    let file = file_with(rt.alloc(), 12, b"makes=64\n")?;
+    let file = file_with(rt.alloc(), Some(12), b"makes=64\n")?;
     let mut moves = [untouched(); 4];
-    assert_eq!(rt; told(read(file.as_slice(), &mut moves)), Some((3, 13)));
+    assert_eq!(rt;
+        read(file.as_slice(), &mut moves).err(),
+        misread(OutOfRange, 13)
+    );
     assert!(rt; moves[0].group == 0 && moves[0].price == 15);
     assert!(rt; moves[1].group == 9 && moves[2].group == 9 && moves[3].group == 9);
     Ok(())
@@ -159,15 +162,23 @@ fn moves_read_whole_stay(rt: HostRuntime) -> Result<(), Fail> {
 fn printed(rt: HostRuntime) -> Result<(), Fail> {
     let heap = rt.alloc();
     for (at, text, answer) in [
-        (15, "", "facts=3\nmoves=2\nstart=0\ngoal=1,2\nfloor=19\n"),
-        (3, "goal=\n", "facts=3\nmoves=2\nstart=0\ngoal=\nfloor=0\n"),
-        (2, "start=3\n", "answer=refused\nnumber=5\nline=0\n"),
-        (8, "breaks=0,1\n", "answer=refused\nnumber=6\nline=0\n"),
-        (5, "price=015\n", "answer=refused\nnumber=2\nline=6\n"),
+        (None, "", "facts=3\nmoves=2\nstart=0\ngoal=1,2\nfloor=19\n"),
+        (
+            Some(3),
+            "goal=\n",
+            "facts=3\nmoves=2\nstart=0\ngoal=\nfloor=0\n",
+        ),
+        (Some(2), "start=3\n", "answer=refused\nnumber=5\nline=0\n"),
+        (
+            Some(8),
+            "breaks=0,1\n",
+            "answer=refused\nnumber=6\nline=0\n",
+        ),
+        (Some(5), "price=015\n", "answer=refused\nnumber=2\nline=6\n"),
     ] {
         let file = file_with(heap, at, text.as_bytes())?;
         let told = respond(heap, file.as_slice())?;
-        assert!(rt; told.as_str() == answer, "at {at}");
+        assert_eq!(rt; told.as_str(), answer);
     }
     Ok(())
 }
@@ -192,22 +203,33 @@ fn long_file(heap: Global, longer: usize) -> Result<Vec<u8>, AllocError> {
 }
 
 // What comes of the long file, read into a list of so many places as moves may be.
-fn long_outcome(heap: Global, longer: usize) -> Result<(usize, Option<(u16, u32)>), AllocError> {
+fn long_outcome(heap: Global, longer: usize) -> Result<(usize, Option<Misread>), AllocError> {
     let file = long_file(heap, longer)?;
     let mut moves = [untouched(); 1024];
-    let outcome = told(read(file.as_slice(), &mut moves));
+    let outcome = read(file.as_slice(), &mut moves).err();
     Ok((file.len(), outcome))
 }
 
 #[test]
 fn the_longest_file(rt: HostRuntime) -> Result<(), Fail> {
     assert_eq!(rt; long_outcome(rt.alloc(), 253)?, (60_000, None));
-    assert_eq!(rt; long_outcome(rt.alloc(), 254)?, (60_001, Some((3, 0))));
+    assert_eq!(rt;
+        long_outcome(rt.alloc(), 254)?,
+        (60_001, misread(OutOfRange, 0))
+    );
     Ok(())
 }
 
 #[test]
+fn numbers_of_flaws(rt: HostRuntime) {
+    assert_eq!(rt; WrongLine.number(), 1);
+    assert_eq!(rt; Malformed.number(), 2);
+    assert_eq!(rt; OutOfRange.number(), 3);
+    assert_eq!(rt; TooManyMoves.number(), 4);
+}
+
+#[test]
 fn many_bytes(rt: HostRuntime) {
-    assert_eq!(rt; refused(&[b'x'; 60_000]), Some((1, 1)));
-    assert_eq!(rt; refused(&[b'x'; 60_001]), Some((3, 0)));
+    assert_eq!(rt; refused(&[b'x'; 60_000]), misread(WrongLine, 1));
+    assert_eq!(rt; refused(&[b'x'; 60_001]), misread(OutOfRange, 0));
 }

@@ -6,7 +6,7 @@ use search::Search;
 use std::marker::PhantomData;
 use std::test::Fail;
 use tables::{One, Single, work_out};
-use theory::{Kind, Mark};
+use theory::{Kind, Mark, Refusal};
 
 #[test]
 fn a_search_by_hand(rt: HostRuntime) -> Result<(), Fail> {
@@ -16,16 +16,14 @@ fn a_search_by_hand(rt: HostRuntime) -> Result<(), Fail> {
     let mut table = [blank::<Minutes>(); 6];
     let mut search = Search::make(task, &bound, &mut table);
     let first = search.run(&bound, 1).map_err(|_| "refused")?;
-    assert!(rt; first.kind == Kind::Pending);
+    assert_eq!(rt; first.kind, Kind::Pending);
     let mut list = [5, 5, 5];
-    let why = search.read_out(&mut list).err().ok_or("a list")?;
-    assert_eq!(rt; why.number(), 12);
+    assert_eq!(rt; search.read_out(&mut list), Err(Refusal::NotPlanned));
     assert_eq!(rt; list, [5, 5, 5]);
     let last = search.run(&bound, 65_536).map_err(|_| "refused")?;
-    assert!(rt; last.kind == Kind::Plan);
-    assert_eq!(rt; (last.opened, last.value.total), (2, 19));
-    let length = search.read_out(&mut list).map_err(|_| "no list")?;
-    assert_eq!(rt; length, 2);
+    assert_eq!(rt; last.kind, Kind::Plan);
+    assert_eq!(rt; (last.opened, last.value), (2, Minutes { total: 19 }));
+    assert_eq!(rt; search.read_out(&mut list), Ok(2));
     assert_eq!(rt; list, [0, 1, 5]);
     let table = search.close();
     assert!(rt; table.len() == 6);
@@ -53,8 +51,7 @@ fn an_overdrawn_bound(rt: HostRuntime) -> Result<(), Fail> {
     let mut table = [blank::<Minutes>(); 4];
     let mut search = Search::make(task, &bound, &mut table);
     let blind = Blind::<Minutes> { of: PhantomData };
-    let why = search.run(&blind, 1).err().ok_or("a reply")?;
-    assert_eq!(rt; why.number(), 10);
+    assert_eq!(rt; search.run(&blind, 1), Err(Refusal::Overdrawn));
     let table = search.close();
     assert!(rt; table.len() == 4);
     assert_eq!(rt; (table[0].parent, table[0].via), (7, 7));
@@ -73,9 +70,8 @@ fn a_bound_of_another_task(rt: HostRuntime) -> Result<(), Fail> {
     let blind = Blind::<Minutes> { of: PhantomData };
     let mut table = [blank::<Minutes>(); 4];
     let mut search = Search::make(task, &blind, &mut table);
-    let why = search.run(&bound, 1).err().ok_or("a reply")?;
-    assert_eq!(rt; why.number(), 9);
+    assert_eq!(rt; search.run(&bound, 1), Err(Refusal::Misfit));
     let reply = search.run(&blind, 0).map_err(|_| "refused")?;
-    assert_eq!(rt; reply.value.total, Minutes::nil().total);
+    assert_eq!(rt; reply.value, Minutes::nil());
     Ok(())
 }
