@@ -10,6 +10,7 @@ use search::Search;
 use theory::Refusal;
 
 // Makes each call in turn, as many as there are places for the replies, and writes its answer beside it.
+// That the table stays the one lent relates two states, so that no field can hold it.
 pub fn answer_all<V: Tally, B: Bound<Value = V>>(
     search: &mut Search<'_, '_, V>,
     bound: &B,

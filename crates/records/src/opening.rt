@@ -11,7 +11,7 @@ use bounds::Bound;
 use costs::Tally;
 use tasks::Task;
 
-// Opens the choice.
+// Opens the choice. Task and bound come apart, since the task stays with a search and a bound is handed to each of its runs.
 pub fn open<V: Tally, B: Bound<Value = V>>(
     task: &Task<'_>,
     bound: &B,

@@ -1,4 +1,4 @@
-// A table with what it was worked out from.
+// A table, lent since there is no heap for it, with what it was worked out from.
 ghost use Rattle.std.specs.Prelude.{◌≡◌, slice_index_or};
 
 use crate::origin::Origin;
