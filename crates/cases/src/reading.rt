@@ -90,6 +90,7 @@ fn small_task(rt: HostRuntime) -> Result<(), Fail> {
 
 #[test]
 fn a_wrong_key_in_each_place(rt: HostRuntime) -> Result<(), Fail> {
+    // the places are what is tested
     for at in 0..14u8 {
         let first = misread(WrongLine, u32::from(at) + 1);
         let line = Some(usize::from(at));
@@ -190,6 +191,7 @@ fn long_file(heap: Global, longer: usize) -> Result<Vec<u8>, AllocError> {
     let facts = (10..64u8).join(heap, ",")?;
     let heading = format!(in heap; "facts=64\nmoves=1024\nstart={facts}\ngoal={facts}\n")?;
     file.extend_from_slice(heading.as_bytes())?;
+    // written, not read: there is nothing yet to go over
     for i in 0..1024usize {
         file.extend_from_slice(b"group=0\nprice=65535\nneeds=0,1,2,3,4,5,6,7\nmakes=9\n")?;
         let last: &[u8] = if i < longer {

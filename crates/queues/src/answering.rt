@@ -30,7 +30,7 @@ pub fn answer_all<V: Tally, B: Bound<Value = V>>(
     }
 }
 
-// Makes one call.
+// Makes one call, which is taken apart as data.
 fn answer<V: Tally, B: Bound<Value = V>>(
     search: &mut Search<'_, '_, V>,
     bound: &B,

@@ -40,7 +40,7 @@ fn search_by(task: Task<'_>, pairs: &[Estimate<Minutes>], list: &mut [u16; 1024]
     }
 }
 
-// A record to fill the table with; its places are written before they are read.
+// A record to fill the table with; its places are written before they are read. The tests of trials have one of their own.
 fn blank() -> Record<Minutes> {
     Record {
         set: FactSet::empty(),

@@ -7,14 +7,14 @@ use facts::FactSet;
 use itertools::Itertools;
 use std::alloc::{AllocError, Global};
 
-// A set of facts, in rising order.
+// A set of facts, in rising order: the library's `join`, and which bytes it makes.
 pub fn set_text(heap: Global, set: FactSet) -> Result<String, AllocError>
     ensures { IfOk result (λ text. (facts : List ℕ) × Lists set facts × (string_bytes text ≡ joined facts)) }
 {
     set.iter().join(heap, ",")
 }
 
-// Numbers of moves, in list order.
+// Numbers of moves, in list order, likewise.
 pub fn moves_text(heap: Global, moves: &[u16]) -> Result<String, AllocError>
     ensures { IfOk result (λ text. string_bytes text ≡ joined moves.now) }
 {

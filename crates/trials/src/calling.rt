@@ -75,3 +75,13 @@ fn a_bound_of_another_task(rt: HostRuntime) -> Result<(), Fail> {
     assert_eq!(rt; reply.value, Minutes::nil());
     Ok(())
 }
+
+#[test]
+fn numbers_told(rt: HostRuntime) {
+    assert_eq!(rt; Refusal::TableSize.number(), 8);
+    assert_eq!(rt; Refusal::Misfit.number(), 9);
+    assert_eq!(rt; Refusal::Overdrawn.number(), 10);
+    assert_eq!(rt; Refusal::GrantTooLarge.number(), 11);
+    assert_eq!(rt; Refusal::NotPlanned.number(), 12);
+    assert_eq!(rt; Refusal::ListTooShort.number(), 13);
+}

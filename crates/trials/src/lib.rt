@@ -15,7 +15,7 @@ use queues::Told;
 #[cfg(test)]
 use theory::{Kind, Mark, Record, Refusal};
 
-// A record to fill a table with.
+// A record to fill a table with, other than the one of solutions, so that what no call writes is seen.
 #[cfg(test)]
 fn blank<V: Tally>() -> Record<V> {
     Record {
@@ -28,7 +28,7 @@ fn blank<V: Tally>() -> Record<V> {
     }
 }
 
-// The kind in a word.
+// The kind in a word, so that a reply and what is expected of it stand on one line.
 #[cfg(test)]
 fn word(kind: Kind) -> &'static str {
     match kind {
