@@ -72,7 +72,7 @@ impl<V: Tally> Layout<V> for One {
 
 impl<V: Tally> Places<'_, '_, V> {
     // The place of fact p; a missing place is never.
-    // Apart from `pair`: one function of any layout was tried, but called from a layout's own it stands in a cycle of calls.
+    // Apart from `pair`: one function of any layout, called from a layout's own, would stand in a cycle of calls, as at `lower_single`.
     fn single(&self, p: u8) -> Estimate<V>
         ensures { result ≡ single_values V.Tally self.now p }
     {
