@@ -234,6 +234,15 @@ module _ {V : Type 0} {tally : Ghosts V} (laws : LawsOf tally) (b : Setting) whe
           )) w)) now;
     }
 
+    -- a move that makes nothing, or breaks all that it makes, has no step
+    pub with_headless : (val : Two → Estimate V) → ((f : ℕ) → T (heads m f) → ⊥) → Turned tally (pairs tally b) fresh (Before i) (Before (i + 1)) val val
+    with_headless val none = record {
+      runs = λ done floor r. seen_more (pairs tally b) laws pairs_tops fresh val done floor (Before i) (Before (i + 1))
+          (λ j n y t st f l. inl (⊎_elim
+          (λ e. absurd (⊎_elim (none y.0) (none y.1) (head_of m st.set t y st.names (own_step j n y t e st).1)))
+          (λ ne. omega arith) (cases_eq j i))) r;
+    }
+
     -- a move whose needs are never offers nothing
     pub with_never : (val : Two → Estimate V) → estimate_by_pairs tally val m.needs ≡ None → Turned tally (pairs tally b) fresh (Before i) (Before (i + 1)) val val
     with_never val never = record {

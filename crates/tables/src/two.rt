@@ -49,6 +49,11 @@ impl<V: Tally> Layout<V> for Two {
         if others.is_empty() {
             return;
         }
+        let heads = m.makes.without(m.breaks);
+        // without a head nothing is lowered, so that its needs are not looked up
+        if heads.is_within(FactSet::empty()) {
+            return;
+        }
         let places = Places {
             origin: *origin,
             table,
@@ -58,7 +63,6 @@ impl<V: Tally> Layout<V> for Two {
         if let None = base {
             return;
         }
-        let heads = m.makes.without(m.breaks);
         for r in others {
             if !m.breaks.has(r) {
                 let places = Places {
@@ -200,22 +204,23 @@ fn number_of(facts: u8, p: u8, q: u8) -> usize
     usize::from(p) * usize::from(facts) + usize::from(q)
 }
 
-// x, if that is a fact that the move does not make.
+// x, if that is a fact that the move neither makes nor breaks.
 fn unmade(m: &Move, facts: u8, x: u8) -> Range<u8>
     ensures within { result.end ≤ facts }
-    ensures told { (r : ℕ) → r < facts → ((result.start ≤ r) × (r < result.end)) ↔ ((r ≡ x) × (T (has m.now.makes r) → ⊥)) }
+    ensures told { (r : ℕ) → r < facts → (T (has m.now.breaks r) → ⊥) → ((result.start ≤ r) × (r < result.end)) ↔ ((r ≡ x) × (T (has m.now.makes r) → ⊥)) }
 {
-    if x < facts && !m.makes.has(x) {
+    if x < facts && !m.makes.has(x) && !m.breaks.has(x) {
         x..x + 1
     } else {
         0..0
     }
 }
 
-// The facts r beside which the needs of the move have the pair just settled; at first, all of them.
+// The facts r, of those that the move does not break, beside which its needs have the pair just settled; at first, all.
+// Others in the range are broken.
 fn concerned(m: &Move, facts: u8, settled: Option<(u8, u8)>) -> Range<u8>
     ensures within { result.end ≤ facts }
-    ensures told { (r : ℕ) → r < facts → ((result.start ≤ r) × (r < result.end)) ↔ T (touches (both (besides m.now r)) settled) }
+    ensures told { (r : ℕ) → r < facts → (T (has m.now.breaks r) → ⊥) → ((result.start ≤ r) × (r < result.end)) ↔ T (touches (both (besides m.now r)) settled) }
 {
     let Some((p, q)) = settled else {
         return 0..facts;

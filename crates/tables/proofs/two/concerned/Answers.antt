@@ -16,25 +16,25 @@ module _ (m : Move) (r : ℕ) (settled : Option Two) (k : Two) (is : settled ≡
       subst (λ s. In ↔ T (touches (both (besides m r)) s)) (sym is) ((λ i. to (one.0 (told.0 i))), λ h. told.1 (one.1 (from h)))
 
 pub returns-in-true-false-clause-told : goal.returns-in-true-false-clause-told
-returns-in-true-false-clause-told c = λ r l.
+returns-in-true-false-clause-told c = λ r l whole.
     let m = c.args.m.now in
     let p = c.in-Some.p in
     let q = c.in-Some.q in
-    beside_one m r c.args.settled (p, q) c.in-Some.is q (sym c.in-true-false.ensures') (c.unmade.ensures.told r l)
+    beside_one m r c.args.settled (p, q) c.in-Some.is q (sym c.in-true-false.ensures') (c.unmade.ensures.told r l whole)
     (λ h. and_both (besides m r p) (besides m r q) (besides_needs m r p (from_true (sym c.in-true-false.ensures))) h) (λ h. and_right (besides m r p) (besides m r q) h)
 
 pub returns-in-false-true-clause-told : goal.returns-in-false-true-clause-told
-returns-in-false-true-clause-told c = λ r l.
+returns-in-false-true-clause-told c = λ r l whole.
     let m = c.args.m.now in
     let p = c.in-Some.p in
     let q = c.in-Some.q in
-    beside_one m r c.args.settled (p, q) c.in-Some.is p (sym c.in-false-true.ensures) (c.unmade-in-false-true.ensures.told r l)
+    beside_one m r c.args.settled (p, q) c.in-Some.is p (sym c.in-false-true.ensures) (c.unmade-in-false-true.ensures.told r l whole)
     (λ h. and_both (besides m r p) (besides m r q) h (besides_needs m r q (from_true (sym c.in-false-true.ensures')))) (λ h. and_left (besides m r p) (besides m r q) h)
 
 pub returns-in-false-false-clause-told : goal.returns-in-false-false-clause-told
-returns-in-false-false-clause-told c = λ r l.
+returns-in-false-false-clause-told c = λ r l whole.
     let m = c.args.m.now in
     let p = c.in-Some.p in
     let q = c.in-Some.q in
-    beside_one m r c.args.settled (p, q) c.in-Some.is p (sym c.in-false-false.ensures) (c.unmade-in-false-false.ensures.told r l)
+    beside_one m r c.args.settled (p, q) c.in-Some.is p (sym c.in-false-false.ensures) (c.unmade-in-false-false.ensures.told r l whole)
     (λ h. and_both (besides m r p) (besides m r q) h (subst (λ x. T (besides m r x)) c.if-p-q.true h)) (λ h. and_left (besides m r p) (besides m r q) h)

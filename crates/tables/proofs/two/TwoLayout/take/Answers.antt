@@ -10,7 +10,7 @@ use Rattle.tables.specs.Origins.{setting_in}
 use Rattle.tables.specs.Reading.{Two, Top, estimate_by_pairs}
 use Rattle.tables.proofs.Order.{laws_of}
 use Rattle.tables.proofs.Tops.{pairs_top, top_sole}
-use Rattle.tables.proofs.TwoFacts.{with_first, with_last, with_never, with_lowers, with_broken, needs_kept, besides_top, target_estimate}
+use Rattle.tables.proofs.TwoFacts.{with_first, with_last, with_never, with_headless, with_lowers, with_broken, needs_kept, besides_top, target_estimate}
 use Rattle.tables.proofs.two.TwoLayout.take.Goals as goal
 
 -- the facts from a on that come before r, and one more
@@ -30,9 +30,15 @@ returns-then-is_empty g c = λ j at.
     let a = others.start in
     let empty = ge_from_not_lt others.start others.end (not-true _ (sym c.is_empty.ensures ∙ c.if-is_empty.true)) in
     let all = with_last laws b c.args.settled j m at val (Upto a a)
-    (λ x l unbroken touched. let i = (c.concerned-others.ensures.told x l).1 touched in absurd (omega (arith, i.0, i.1, empty))) in
+    (λ x l unbroken touched. let i = (c.concerned-others.ensures.told x l unbroken).1 touched in absurd (omega (arith, i.0, i.1, empty))) in
     let none = with_first laws b c.args.settled j m at val (Upto a a) (λ x h. omega (arith, h.0, h.1)) in
     record { runs = λ done floor r. all.runs done floor (none.runs done floor r) }
+
+pub returns-then-is_within : goal.returns-then-is_within
+returns-then-is_within g c = λ j at.
+    let b = setting_in c.args.origin.now in
+    with_headless (laws_of g.V.Tally g.met.V.Tally.lawful) b c.args.settled j c.args.m.now at (place_of (pairs g.V.Tally b) c.args.table.now)
+    (λ f h. absurd (not_both ((c.is_within.ensures.0 c.if-is_within.true) f (subst T (sym (c.without-heads.ensures f)) h)) (c.empty.ensures f)))
 
 pub returns-in-None : goal.returns-in-None
 returns-in-None g c = λ j at.
@@ -78,7 +84,7 @@ loop-r-preserved-then-not-has g c =
     let starts : a ≡ others.start = ap (λ k. k.start) same in
     let ends : c.into_iter-r-iterator.result.end ≡ others.end = ap (λ k. k.end) same in
     let whole : T (has m.breaks r) → ⊥ = λ h. not_both h (sym c.has.ensures ∙ c.if-not-has.true) in
-    let touched = (c.concerned-others.ensures.told r (omega (arith, told, kept_range, ends, c.concerned-others.ensures.within))).0 (omega (arith, told, kept_range, starts), omega (arith, told, kept_range, ends)) in
+    let touched = (c.concerned-others.ensures.told r (omega (arith, told, kept_range, ends, c.concerned-others.ensures.within)) whole).0 (omega (arith, told, kept_range, starts), omega (arith, told, kept_range, ends)) in
     let is = c.offer-offer.ensures ∙ ap (offer_of tally b m) (top_sole laws c.with_beside.ensures (besides_top laws val m r) ∙ sym (target_estimate laws val m r)) in
     let kept = needs_kept laws b m r _ val (at_table new) offer is c.lower_pairs.ensures in
     let base_was : c.highest_pair-base.result ≡ estimate_by_pairs tally val m.needs = top_sole laws c.loop-r.invariant.0 (pairs_top laws val m.needs) in (
@@ -119,5 +125,5 @@ returns g c = λ j at.
     let starts : a ≡ c.concerned-others.result.start = ap (λ k. k.start) same in
     let ends : c.into_iter-r-iterator.result.end ≡ c.concerned-others.result.end = ap (λ k. k.end) same in
     let all = with_last laws b c.args.settled j c.args.m.now at (place_of (pairs g.V.Tally b) c.loop-r.table) (Upto a r)
-    (λ x l unbroken touched. let i = (c.concerned-others.ensures.told x l).1 touched in (omega (arith, i.0, starts), omega (arith, i.1, told.1, kept_range, ends))) in
+    (λ x l unbroken touched. let i = (c.concerned-others.ensures.told x l unbroken).1 touched in (omega (arith, i.0, starts), omega (arith, i.1, told.1, kept_range, ends))) in
     record { runs = λ done floor s. all.runs done floor ((c.loop-r.invariant.2 j at).runs done floor s) }
