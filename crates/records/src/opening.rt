@@ -36,7 +36,8 @@ fn take_moves<V: Tally, B: Bound<Value = V>>(
     ensures grown { Grown records.old records.new }
     ensures taken { TookAll (problem_of V.Tally B.Bound task.now bound.now (room_of records.old)) (recs_of records.old) (recs_of records.new) choice.now.number choice.now.row result }
 {
-    for (number, m) in task.moves().iter().enumerate() {
+    let moves = task.moves();
+    for (number, m) in moves.iter().enumerate() {
         let Some(set) = m.regress(choice.row.set) else {
             continue;
         };
