@@ -1,5 +1,4 @@
 use Rattle.std.proofs.Common.{length, Some, sym, ap, ◌∙◌, subst, arith}
-use Rattle.std.proofs.lemmas.List.{set-get_or}
 use Rattle.theory.specs.Runs.{Trail}
 use Rattle.runs.specs.Trails.{Steps}
 use Rattle.runs.proofs.Trailing.{copied_more, copied_all, way_done}
@@ -20,7 +19,7 @@ returns-in_default g c l t h =
     let inv = c.loop-place.invariant in
     let step = c.in_default.ensures.steps (omega (arith, inv.1, c.loop-place-test.true)) in
     let way = subst (λ w. Trail w.rows.now w.at l) (sym c.take-trail.ensures.source) t in
-    set-get_or c.loop-place.list c.loop-place.place-index 0 ∙ copied_all _ _ c.loop-place.list inv.2 l way
+    copied_all _ _ c.loop-place.list inv.2 l way
     (λ rest u sum. ap length (way_done (subst (λ r. Trail r c.loop-place.trail.iter.at rest) (sym inv.0) u) step.1))
 
 pub returns : goal.returns
