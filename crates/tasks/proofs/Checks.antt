@@ -25,12 +25,12 @@ few_moves_of t = few_moves (draft_of t) (t.checked OutOfRange)
 pub few_facts : (t : Task) → facts_of t ≤ 64
 few_facts t = ⊎_elim (λ l. absurd (t.checked OutOfRange Heading (inr (inl l)))) (λ l. l) (cases_lt 64 (facts_of t))
 
+pub some_facts : (t : Task) → 0 < facts_of t
+some_facts t = ⊎_elim (λ l. absurd (t.checked OutOfRange Heading (inl l))) (λ l. omega arith) (cases_lt (facts_of t) 1)
+
 -- a task is told by its draft alone: that it has no fault has one proof
 pub same_task : (t u : Task) → draft_of t ≡ draft_of u → t ≡ u
 same_task t u p = λ i. record { draft = p i; checked = is_prop→PathP (λ j. Faultless (p j)) (λ j. hlevel) t.checked u.checked i }
-
-pub some_facts : (t : Task) → 0 < facts_of t
-some_facts t = ⊎_elim (λ l. absurd (t.checked OutOfRange Heading (inl l))) (λ l. omega arith) (cases_lt (facts_of t) 1)
 
 -- any move will do where a list is read past its end
 abbrev pub no_move : Move
