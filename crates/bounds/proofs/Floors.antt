@@ -5,9 +5,8 @@ use Rattle.facts.specs.declared.sets.FactSet.{FactSet}
 use Rattle.tasks.specs.Lists.{Chain, Sublist, empty, keep, skip}
 use Rattle.tasks.specs.Moves.{Regresses}
 use Rattle.tasks.specs.Places.{At}
-use Rattle.tasks.specs.Tasks.{start_of, goal_of, moves_of}
+use Rattle.tasks.specs.declared.draft.Draft.{Draft}
 use Rattle.tasks.specs.declared.moves.Move.{Move}
-use Rattle.tasks.specs.declared.task.Task.{Task}
 use Rattle.tasks.proofs.Chains.{good_lists_have_chains}
 use Rattle.tasks.proofs.Places.{at_same}
 use Rattle.costs.specs.Estimates.{join_each}
@@ -36,13 +35,13 @@ module _ {V : Type 0} {tally : Ghosts V} (laws : Lawful tally.at_most tally.nil 
       let less = sublist_costs sub rest in
       (less.0, less.1, laws.transitive less.0 v (tally.join (charge_of tally m) v) less.2 (up_right laws (charge_of tally m) v))
 
-  module _ {t : Task} {estimate : FactSet → Estimate V} {share : ℕ → V} (trusted : Trusted tally t estimate share) where
+  module _ {d : Draft} {estimate : FactSet → Estimate V} {share : ℕ → V} (trusted : Trusted tally d estimate share) where
     -- the share of a move is at most its charge
-    pub share_drawn : {k : ℕ} {m : Move} → At (moves_of t) k m → T (tally.at_most (share k) (charge_of tally m))
+    pub share_drawn : {k : ℕ} {m : Move} → At d.moves.now k m → T (tally.at_most (share k) (charge_of tally m))
     share_drawn {k} {m} at = elim (compare laws (share k) (charge_of tally m)) [ inl p ↦ p | inr e ↦ absurd (trusted.drawn (k, m, at, e)) ]
 
     -- if a move regresses s to u, the estimate of s is at most the move's charge joined with the estimate of u
-    pub floor_step : {k : ℕ} {m : Move} {s u : FactSet} → At (moves_of t) k m → Regresses m s u
+    pub floor_step : {k : ℕ} {m : Move} {s u : FactSet} → At d.moves.now k m → Regresses m s u
         → NotAbove tally (estimate s) (joined_with tally (charge_of tally m) (estimate u))
     floor_step {k} {m} {s} {u} at r =
         (estimates_lawful laws).transitive (estimate s) (joined_with tally (share k) (estimate u)) (joined_with tally (charge_of tally m) (estimate u))
@@ -50,7 +49,7 @@ module _ {V : Type 0} {tally : Ghosts V} (laws : Lawful tally.at_most tally.nil 
         (join_mono_left (estimates_lawful laws) (Some (share k)) (Some (charge_of tally m)) (estimate u) (share_drawn at))
 
     -- along a chain from s to u, the estimate of s is at most the chain's cost joined with the estimate of u
-    pub floor_along : {s u : FactSet} {l : List ℕ} {v : V} → Chain (moves_of t) s l u → Costs tally (moves_of t) l v
+    pub floor_along : {s u : FactSet} {l : List ℕ} {v : V} → Chain d.moves.now s l u → Costs tally d.moves.now l v
         → NotAbove tally (estimate s) (joined_with tally v (estimate u))
     floor_along {s} Chain.none nothing =
         from_equal (estimates_lawful laws) (estimate s) (joined_with tally tally.nil (estimate s)) (sym (neutral_left (estimates_lawful laws) (estimate s)))
@@ -62,7 +61,7 @@ module _ {V : Type 0} {tally : Ghosts V} (laws : Lawful tally.at_most tally.nil 
         (subst (NotAbove tally (estimate s)) (charge_first laws (charge_of tally m) v (estimate u)) far)
 
     -- no chain from a set to one within the start costs less than the set's estimate
-    pub floor_within : {s u : FactSet} {l : List ℕ} {v : V} → Chain (moves_of t) s l u → Within u (start_of t) → Costs tally (moves_of t) l v
+    pub floor_within : {s u : FactSet} {l : List ℕ} {v : V} → Chain d.moves.now s l u → Within u d.start → Costs tally d.moves.now l v
         → NotAbove tally (estimate s) (Some v)
     floor_within {s} {u} {l} {v} chain w costs =
         subst (NotAbove tally (estimate s))
@@ -70,11 +69,11 @@ module _ {V : Type 0} {tally : Ghosts V} (laws : Lawful tally.at_most tally.nil 
         (floor_along chain costs)
 
   pub estimates_are_floors : EstimatesAreFloors tally
-  estimates_are_floors t estimate share trusted = record {
+  estimates_are_floors d estimate share trusted = record {
     chains = λ s u l v chain w costs. floor_within trusted chain w costs;
-    lists = λ l v good costs.
-        let some = good_lists_have_chains t l good in
+    lists = λ faultless l v good costs.
+        let some = good_lists_have_chains d faultless l good in
         let less = sublist_costs some.2 costs in
-        (estimates_lawful laws).transitive (estimate (goal_of t)) (Some less.0) (Some v)
+        (estimates_lawful laws).transitive (estimate d.goal) (Some less.0) (Some v)
         (floor_within trusted some.1.chain some.1.within less.1) less.2;
   }

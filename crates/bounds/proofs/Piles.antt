@@ -1,7 +1,7 @@
 -- The higher of two bounds, and their sum, keep the laws where both do.
 use Rattle.std.proofs.Common.{◌≡◌, ℕ, Bool, T, sym, ap, ◌∙◌, subst, ⊎_elim, Some}
 use Rattle.facts.specs.declared.sets.FactSet.{FactSet}
-use Rattle.tasks.specs.declared.task.Task.{Task}
+use Rattle.tasks.specs.declared.draft.Draft.{Draft}
 use Rattle.costs.specs.Choices.{larger_of}
 use Rattle.costs.specs.Estimates.{join_each}
 use Rattle.costs.specs.Laws.{Lawful}
@@ -10,7 +10,7 @@ use Rattle.costs.specs.declared.tally.Tally.{Ghosts}
 use Rattle.costs.specs.EstimatesLemmas.{estimates_lawful}
 use Rattle.costs.proofs.Orders.{transitive, join_mono, swap_in, larger_made}
 use Rattle.bounds.specs.Piles.{higher_estimate, higher_share, sum_estimate, sum_share, PilesAreSound}
-use Rattle.bounds.specs.Sound.{Sound}
+use Rattle.bounds.specs.Sound.{SoundIn}
 
 module _ {V : Type 0} {at_most : V → V → Bool} {nil : V} {join : V → V → V} (laws : Lawful at_most nil join) where
   -- what is at least both of two costs is at least the larger
@@ -37,8 +37,8 @@ module _ {V : Type 0} {at_most : V → V → Bool} {nil : V} {join : V → V →
   sum_step : (d e f g a b : V) → T (at_most d (join a e)) → T (at_most f (join b g)) → T (at_most (join d f) (join (join a b) (join e g)))
   sum_step d e f g a b p q = subst (λ x. T (at_most (join d f) x)) (regrouped a e b g) (join_mono laws d (join a e) f (join b g) p q)
 
-module _ {V : Type 0} {tally : Ghosts V} (laws : Lawful tally.at_most tally.nil tally.join) {t : Task} {e f : FactSet → Estimate V} {a b : ℕ → V} where
-  pub higher_sound : Sound tally t e a → Sound tally t f b → Sound tally t (higher_estimate tally e f) (higher_share tally a b)
+module _ {V : Type 0} {tally : Ghosts V} (laws : Lawful tally.at_most tally.nil tally.join) {d : Draft} {e f : FactSet → Estimate V} {a b : ℕ → V} where
+  pub higher_sound : SoundIn tally d e a → SoundIn tally d f b → SoundIn tally d (higher_estimate tally e f) (higher_share tally a b)
   higher_sound one other = record {
     within = λ s w. ⊎_elim (λ is. is ∙ one.within s w) (λ is. is ∙ other.within s w) (larger_made (estimates_lawful laws) (e s) (f s)).chosen;
     step = λ k m s u at r.
@@ -47,7 +47,7 @@ module _ {V : Type 0} {tally : Ghosts V} (laws : Lawful tally.at_most tally.nil 
         (one.step k m s u at r) (other.step k m s u at r) top.above_one top.above_other;
   }
 
-  pub sum_sound : Sound tally t e a → Sound tally t f b → Sound tally t (sum_estimate tally e f) (sum_share tally a b)
+  pub sum_sound : SoundIn tally d e a → SoundIn tally d f b → SoundIn tally d (sum_estimate tally e f) (sum_share tally a b)
   sum_sound one other = record {
     within = λ s w.
         ap (λ x. join_each tally.join x (f s)) (one.within s w)

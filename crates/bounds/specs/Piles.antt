@@ -1,12 +1,12 @@
 -- What is made of two bounds: the higher of them, and their sum.
 use Rattle.std.specs.Prelude.{ℕ}
 use Rattle.facts.specs.declared.sets.FactSet.{FactSet}
-use Rattle.tasks.specs.declared.task.Task.{Task}
+use Rattle.tasks.specs.declared.draft.Draft.{Draft}
 use Rattle.costs.specs.Choices.{larger_of}
 use Rattle.costs.specs.Estimates.{not_above, join_each}
 use Rattle.costs.specs.Estimates.{Estimate}
 use Rattle.costs.specs.declared.tally.Tally.{Ghosts}
-use Rattle.bounds.specs.Sound.{Sound}
+use Rattle.bounds.specs.Sound.{SoundIn}
 
 module _ {V : Type 0} (tally : Ghosts V) where
   -- the larger of the two, for each set and for each move
@@ -25,7 +25,7 @@ module _ {V : Type 0} (tally : Ghosts V) where
 
 -- the higher of two bounds keeps the laws where both do, and so does their sum
 pub record PilesAreSound {V : Type 0} (tally : Ghosts V) : Type 0 where
-  pub higher : (t : Task) (e f : FactSet → Estimate V) (a b : ℕ → V) → Sound tally t e a → Sound tally t f b
-      → Sound tally t (higher_estimate tally e f) (higher_share tally a b)
-  pub sum : (t : Task) (e f : FactSet → Estimate V) (a b : ℕ → V) → Sound tally t e a → Sound tally t f b
-      → Sound tally t (sum_estimate tally e f) (sum_share tally a b)
+  pub higher : (d : Draft) (e f : FactSet → Estimate V) (a b : ℕ → V) → SoundIn tally d e a → SoundIn tally d f b
+      → SoundIn tally d (higher_estimate tally e f) (higher_share tally a b)
+  pub sum : (d : Draft) (e f : FactSet → Estimate V) (a b : ℕ → V) → SoundIn tally d e a → SoundIn tally d f b
+      → SoundIn tally d (sum_estimate tally e f) (sum_share tally a b)

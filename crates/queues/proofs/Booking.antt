@@ -2,6 +2,7 @@
 use Rattle.std.proofs.Common.{◌≡◌, ℕ, ◌+◌, ◌<◌, ◌≤◌, min, List, [], ◌∷◌, length, set, Ok, Err, Result, sym, refl, ap, ◌∙◌, subst, subst₂, add-one, arith}
 use Rattle.std.proofs.lemmas.List.{length-set, drop-set-lt}
 use Rattle.tasks.specs.Places.{At}
+use Rattle.tasks.specs.Tasks.{draft_of}
 use Rattle.tasks.specs.declared.task.Task.{Task}
 use Rattle.costs.specs.declared.tally.Tally.{Ghosts}
 use Rattle.theory.specs.Problem.{Lent}
@@ -115,7 +116,7 @@ module _ {V : Type 0} (tally : Ghosts V) (lent : Task → Lent V) (calls : List 
           → Answers (problem_in tally h made) (state_of mid) (call_of (lent h.task) (length before) call) new.answer (state_of later)
       as_first made =
           subst (λ p. Answers (problem_in tally h made) (state_of mid) (call_of (lent h.task) p call) new.answer (state_of later)) long
-          (subst₂ (λ t n. Answers {tally = tally} (record { task = t; bound = made; room = n }) (state_of mid) (call_of (lent t) (length list) call) new.answer (state_of later))
+          (subst₂ (λ t n. Answers {tally = tally} (record { draft = draft_of t; bound = made; room = n }) (state_of mid) (call_of (lent t) (length list) call) new.answer (state_of later))
           stays.task stays.rest.size (new.answered made))
 
 -- the calls made are all, or as many as there are places for their replies

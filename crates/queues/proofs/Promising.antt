@@ -1,7 +1,9 @@
 -- A book of calls on a new search is a queue of the rules, and so keeps the promises.
 use Rattle.std.proofs.Common.{◌≡◌, ℕ, ◌≤◌, min, ◌⊎◌, List, ◌∷◌, length, Ok, Err, Result, sym, refl, ap, ◌∙◌, subst, subst₂, inl, inr, arith, length-take}
 use Rattle.tasks.specs.Places.{At, here, there}
+use Rattle.tasks.specs.Tasks.{draft_of}
 use Rattle.tasks.specs.declared.task.Task.{Task}
+use Rattle.tasks.proofs.Checks.{same_task}
 use Rattle.costs.specs.Laws.{Lawful}
 use Rattle.costs.specs.declared.tally.Tally.{Ghosts}
 use Rattle.theory.specs.Problem.{Problem, Lent}
@@ -66,7 +68,7 @@ plan_brief (Ok u) recs end {found} {i} {l} known e t =
 
 module _ {V : Type 0} {tally : Ghosts V} (lawful : Lawful tally.at_most tally.nil tally.join) (lent : Task → Lent V) (task : Task) (table : List (Record V)) where
   abbrev P : Problem tally
-  P = record { task = task; bound = lent task; room = length table }
+  P = record { draft = draft_of task; bound = lent task; room = length table }
 
   pub promised : (calls : List Call) (told told' : List (Outcome V)) (list list' : List ℕ) (h later : Search V) → Made P table h
       → Serves tally (lent h.task) calls told told' list list' h later → KeepsPromises P table calls told told' list list' later
@@ -85,15 +87,18 @@ module _ {V : Type 0} {tally : Ghosts V} (lawful : Lawful tally.at_most tally.ni
     };
   }
     where
+      same : h.task ≡ task
+      same = same_task h.task task new.draft
+
       book : Book tally (lent h.task) calls (min (length calls) (length told)) told' list list' h later
       book = served.book
 
       log : Log (lent task) (length list) calls told' (min (length calls) (length told)) book.events
-      log = subst (λ t. Log (lent t) (length list) calls told' (min (length calls) (length told)) book.events) new.task book.log
+      log = subst (λ t. Log (lent t) (length list) calls told' (min (length calls) (length told)) book.events) same book.log
 
       queue : Queue P book.events (state_of later)
       queue = queue_by new.makes
-          (subst₂ (λ t n. Follows {tally = tally} (record { task = t; bound = lent task; room = n }) (state_of h) book.events (state_of later)) new.task new.rest.size (book.follows (lent task)))
+          (subst₂ (λ t n. Follows {tally = tally} (record { draft = draft_of t; bound = lent task; room = n }) (state_of h) book.events (state_of later)) same new.rest.size (book.follows (lent task)))
 
       steady : Steady P book.events
       steady i n d r a s = ap (λ x. x.estimate s) (sym (log_steady (lent task) (length list) log i n d r a))

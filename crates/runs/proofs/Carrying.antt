@@ -3,7 +3,6 @@ use Rattle.std.proofs.Common.{◌≡◌, ℕ, suc, ◌+◌, ◌-◌, ◌<◌, �
 use mathlib.Core.Logic.{∥∥₁_elim}
 use Rattle.facts.specs.Sets.{Within}
 use Rattle.facts.proofs.Tests.{not_true_false}
-use Rattle.tasks.specs.Tasks.{start_of}
 use Rattle.costs.specs.declared.tally.Tally.{Ghosts}
 use Rattle.theory.specs.Openings.{Opens, Overflows}
 use Rattle.theory.specs.Problem.{Problem}
@@ -70,7 +69,7 @@ module _ {V : Type 0} {tally : Ghosts V} (P : Problem tally) (first : List (Reco
     none_left none = stops (runs_out none) refl
 
     module _ {i : ℕ} {c : Record V} (ch : Chosen tally recs i c) where
-      pub plan_found : {n : ℕ} → Within c.set (start_of P.task) → ((l : List ℕ) → Trail recs i l → length l ≤ length recs → n ≡ length l) → ∥ Threads first ∥₁
+      pub plan_found : {n : ℕ} → Within c.set P.draft.start → ((l : List ℕ) → Trail recs i l → length l ≤ length recs → n ≡ length l) → ∥ Threads first ∥₁
           → Runs P grant first Going (record { kind = Plan; opened = opened; value = c.spent; length = n }) recs (Planned i) × ∥ Traced recs i ∥₁
       plan_found within long known =
           let traced = ∥∥₁_elim (so.threads known) squash₁ (λ t. ∣ waiting_traced ch t ∣₁) in

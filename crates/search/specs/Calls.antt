@@ -1,5 +1,6 @@
 -- What each call of a search gives and leaves.
 use Rattle.std.specs.Prelude.{◌≡◌, ℕ, ◌≤◌, List, ◌++◌, length, drop, Ok, Err, Result, MatchResult}
+use Rattle.tasks.specs.Tasks.{draft_of}
 use Rattle.costs.specs.declared.tally.Tally.{Ghosts}
 use Rattle.theory.specs.Problem.{Problem, Lent, Honest}
 use Rattle.theory.specs.Promise.{records_of}
@@ -17,7 +18,7 @@ PastRecords before s = Untouched (length (records_of (state_of s))) before (tabl
 
 -- a search is made as the rules say, and what the promises suppose holds
 pub record Made {V : Type 0} {tally : Ghosts V} (P : Problem tally) (before : List (Record V)) (s : Search V) : Type 0 where
-  pub task : s.task ≡ P.task
+  pub draft : draft_of s.task ≡ P.draft
   pub honest : Honest P
   pub makes : Makes P (state_of s)
   pub rest : PastRecords before s

@@ -1,5 +1,6 @@
 -- What is told of a bound that is handed in, and of the size of a table.
 use Rattle.std.specs.Prelude.{◌≡◌, ℕ, ◌<◌, ◌≤◌, true, Err, Result, MatchResult}
+use Rattle.tasks.specs.Tasks.{draft_of}
 use Rattle.tasks.specs.declared.task.Task.{Task}
 use Rattle.costs.specs.declared.tally.Tally.{Ghosts}
 use Rattle.bounds.specs.Sound.{Sound}
@@ -15,7 +16,7 @@ SoundOn tally task b = b.fits ≡ true → Sound tally task b.estimate b.share
 -- what is told of a bound that is handed in: that it can be used on the task, or why not
 pub record Judged {V : Type 0} (tally : Ghosts V) (task : Task) (b : Lent V) (r : Result (Unit {0}) Refusal) : Type 0 where
   pub sound : SoundOn tally task b
-  pub tells : (P : Problem tally) → P.task ≡ task → MatchResult r (λ u. Usable P b) (Unusable P b)
+  pub tells : (P : Problem tally) → P.draft ≡ draft_of task → MatchResult r (λ u. Usable P b) (Unusable P b)
 
 -- whether a search can be made over so many places, or why not: a wrong number of them is told before a fault of the bound
 pub data SizedUp {V : Type 0} (tally : Ghosts V) (task : Task) (b : Lent V) (places : ℕ) : Result (Unit {0}) Refusal → Type 0 where

@@ -1,5 +1,6 @@
 -- What the rules see of a search: a refusal that it keeps, or its records and its end.
 use Rattle.std.specs.Prelude.{List, length, Ok, Err, Result}
+use Rattle.tasks.specs.Tasks.{draft_of}
 use Rattle.costs.specs.declared.tally.Tally.{Ghosts}
 use Rattle.theory.specs.Problem.{Problem, Lent}
 use Rattle.theory.specs.Queue.{State, kept, holding}
@@ -22,4 +23,4 @@ state_of s = state_by s.made (recs_of s.holding.records) s.holding.end
 
 -- the problem of a search that was made with this bound: K is the size of its table
 abbrev pub problem_in : {V : Type 0} (tally : Ghosts V) → Search V → Lent V → Problem tally
-problem_in tally s made = record { task = s.task; bound = made; room = length (table_of s) }
+problem_in tally s made = record { draft = draft_of s.task; bound = made; room = length (table_of s) }

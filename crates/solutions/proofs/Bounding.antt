@@ -1,6 +1,7 @@
 -- The bound over a pair table that was worked out for a task can be used on that task.
 use Rattle.std.proofs.Common.{◌≡◌, ℕ, true, List, None, sym, refl, subst₂}
 use Rattle.facts.specs.declared.sets.FactSet.{FactSet}
+use Rattle.tasks.specs.Tasks.{draft_of}
 use Rattle.tasks.specs.declared.task.Task.{Task}
 use Rattle.costs.specs.Estimates.{Estimate}
 use Rattle.costs.specs.declared.minutes.Minutes.{Minutes}
@@ -44,7 +45,7 @@ useful_table t groups table worked =
       greatest = worked.greatest;
       estimates = worked.reads;
       fits = (fits_tells n minutes_laws laid.tops val (laid.tells val (outside n None table)) t).1 (record { same = record { facts = refl; start = refl; moves = refl }; rules = worked.rules });
-      drawn = shares_are_drawn minutes_laws t groups;
+      drawn = shares_are_drawn minutes_laws (draft_of t) groups;
     }
 
 pub useful : (t : Task) (groups : ℕ) (table : List (Estimate Minutes)) → WorkedOut minutes (pairs minutes (setting_of t groups)) table

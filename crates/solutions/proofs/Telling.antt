@@ -1,6 +1,7 @@
 -- What a run with a grant for all records tells, and what is read out after it.
 use Rattle.std.proofs.Common.{◌≡◌, ℕ, ◌≤◌, List, [], ◌∷◌, ◌++◌, length, drop, refl, ap, ◌∙◌, subst, inr, arith}
 use Rattle.tasks.specs.Places.{At, here, there}
+use Rattle.tasks.specs.Tasks.{draft_of}
 use Rattle.tasks.specs.declared.task.Task.{Task}
 use Rattle.costs.specs.declared.minutes.Minutes.{Minutes}
 use Rattle.theory.specs.Problem.{Problem, Lent, Usable}
@@ -19,7 +20,7 @@ use Rattle.solutions.specs.Solutions.{Says, cheapest, no_list, no_room}
 use Rattle.solutions.proofs.Ended.{Ended, going, planned, exhausted, filled, run_ended}
 
 abbrev pub posed : Task → Lent Minutes → Problem minutes
-posed t b = record { task = t; bound = b; room = 1024 }
+posed t b = record { draft = draft_of t; bound = b; room = 1024 }
 
 -- the two calls with their answers, the latest first
 abbrev pub both : Lent Minutes → (one two : Answer Minutes) → List (Event Minutes)

@@ -2,7 +2,7 @@
 use Rattle.std.specs.Prelude.{◌≡◌, ℕ, true, T, List, [], ◌∷◌, ◌++◌, length, drop}
 use Rattle.facts.specs.declared.sets.FactSet.{FactSet}
 use Rattle.tasks.specs.Lists.{Good}
-use Rattle.tasks.specs.Tasks.{moves_of}
+use Rattle.tasks.specs.Tasks.{draft_of, moves_of}
 use Rattle.tasks.specs.declared.task.Task.{Task}
 use Rattle.costs.specs.Lists.{Costs}
 use Rattle.costs.specs.Minutes.{no_longer}
@@ -38,7 +38,7 @@ pub record ByRules (t : Task) (moves : List ℕ) (r : Reply Minutes) : Type 0 wh
   pub fits : bound.fits ≡ true
   pub answer : Answer Minutes
   pub state : State Minutes
-  pub queue : Queue {tally = minutes} (record { task = t; bound = bound; room = 1024 }) (asked (read_out 1024) answer ∷ asked (run 1024 bound) (ran r) ∷ []) state
+  pub queue : Queue {tally = minutes} (record { draft = draft_of t; bound = bound; room = 1024 }) (asked (read_out 1024) answer ∷ asked (run 1024 bound) (ran r) ∷ []) state
   pub read_so : r.kind ≡ Plan → answer ≡ read moves
 
 -- what the search finds, and what the list lent holds before and after it

@@ -2,7 +2,6 @@
 use Rattle.std.proofs.Common.{◌≡◌, Bool, true, false, cond, T, subst}
 use Rattle.facts.specs.Words.{bit}
 use Rattle.facts.proofs.Tests.{not_both}
-use Rattle.tasks.specs.Tasks.{moves_of}
 use Rattle.tasks.specs.declared.moves.Move.{Move}
 use Rattle.costs.specs.Lists.{charge_of}
 use Rattle.costs.specs.declared.tally.Tally.{Ghosts}
@@ -21,7 +20,7 @@ module _ {V : Type 0} {tally : Ghosts V} (laws : LawsOf tally) where
   counted_below m false = laws.lawful.least (charge_of tally m)
 
   pub shares_are_drawn : SharesAreDrawn tally
-  shares_are_drawn t groups over =
+  shares_are_drawn d groups over =
       let m = over.1 in
       not_both (counted_below m (bit groups m.group))
-      (subst (λ c. tally.at_most c (charge_of tally m) ≡ false) (share_at_move tally groups (moves_of t) over.0 m over.2) over.3)
+      (subst (λ c. tally.at_most c (charge_of tally m) ≡ false) (share_at_move tally groups d.moves.now over.0 m over.2) over.3)

@@ -5,7 +5,8 @@ use Rattle.facts.specs.Words.{bit}
 use Rattle.facts.specs.declared.sets.FactSet.{FactSet}
 use Rattle.tasks.specs.Moves.{Regresses}
 use Rattle.tasks.specs.Places.{At}
-use Rattle.tasks.specs.Tasks.{facts_of, start_of, moves_of}
+use Rattle.tasks.specs.Tasks.{draft_of}
+use Rattle.tasks.specs.declared.draft.Draft.{Draft}
 use Rattle.tasks.specs.declared.moves.Move.{Move}
 use Rattle.tasks.specs.declared.task.Task.{Task}
 use Rattle.costs.specs.Lists.{charge_of}
@@ -20,8 +21,12 @@ pub record Setting : Type 0 where
   pub moves : List Move
   pub groups : ℕ
 
+abbrev pub setting_from : Draft → ℕ → Setting
+setting_from d groups = record { facts = d.facts; start = d.start; moves = d.moves.now; groups = groups }
+
+-- a task's tables are those of its draft
 abbrev pub setting_of : Task → ℕ → Setting
-setting_of t groups = record { facts = facts_of t; start = start_of t; moves = moves_of t; groups = groups }
+setting_of t groups = setting_from (draft_of t) groups
 
 -- a move's counted charge: its charge if its group is counted, otherwise nil
 abbrev pub charge_if_counted : {V : Type 0} → Ghosts V → ℕ → Move → V

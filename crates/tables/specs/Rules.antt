@@ -5,7 +5,8 @@ use Rattle.std.specs.List.{list_all}
 use Rattle.facts.specs.declared.sets.FactSet.{FactSet}
 use Rattle.tasks.specs.Moves.{Regresses}
 use Rattle.tasks.specs.Places.{At}
-use Rattle.tasks.specs.Tasks.{facts_of, start_of, moves_of}
+use Rattle.tasks.specs.Tasks.{draft_of, facts_of, start_of, moves_of}
+use Rattle.tasks.specs.declared.draft.Draft.{Draft}
 use Rattle.tasks.specs.declared.moves.Move.{Move}
 use Rattle.tasks.specs.declared.task.Task.{Task}
 use Rattle.costs.specs.Estimates.{not_above}
@@ -23,16 +24,23 @@ pub record Rules {V K : Type 0} {b : Setting} (tally : Ghosts V) (n : Net V b K)
       → NotAbove tally (val k) (offer_of tally b m (n.est val t))
   pub further : n.Further val
 
--- the task has these facts, this start and these moves; its goal may be any
-pub record SameTask (b : Setting) (t : Task) : Type 0 where
-  pub facts : b.facts ≡ facts_of t
-  pub start : b.start ≡ start_of t
-  pub moves : b.moves ≡ moves_of t
+-- the draft has these facts, this start and these moves; its goal may be any
+pub record SameDraft (b : Setting) (d : Draft) : Type 0 where
+  pub facts : b.facts ≡ d.facts
+  pub start : b.start ≡ d.start
+  pub moves : b.moves ≡ d.moves.now
 
--- when the bound over a table fits a task
-pub record Fits {V K : Type 0} {b : Setting} (tally : Ghosts V) (n : Net V b K) (val : K → Estimate V) (t : Task) : Type 0 where
-  pub same : SameTask b t
+-- when the bound over a table fits a draft
+pub record FitsIn {V K : Type 0} {b : Setting} (tally : Ghosts V) (n : Net V b K) (val : K → Estimate V) (d : Draft) : Type 0 where
+  pub same : SameDraft b d
   pub rules : Rules tally n val
+
+-- a task has the parts of its draft, and a bound fits it where it fits that
+abbrev pub SameTask : Setting → Task → Type 0
+SameTask b t = SameDraft b (draft_of t)
+
+abbrev pub Fits : {V K : Type 0} {b : Setting} (tally : Ghosts V) → Net V b K → (K → Estimate V) → Task → Type 0
+Fits tally n val t = FitsIn tally n val (draft_of t)
 
 -- the same as tests
 abbrev pub is_same_set : FactSet → FactSet → Bool

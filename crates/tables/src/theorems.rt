@@ -9,7 +9,7 @@ pub fn greatest_is_sole<V: Tally>()
     ensures { GreatestIsSole V.Tally }
 {}
 
-// The bound over a table fits the task for which the table was worked out.
+// The bound over a table fits the draft for which the table was worked out, and so the task.
 pub fn worked_out_tables_fit<L: Layout<V>, V: Tally>()
     ensures { WorkedOutTablesFit V.Tally L.Layout.net }
 {}

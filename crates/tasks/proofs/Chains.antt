@@ -25,7 +25,7 @@ chain_carried (Chain.back {m = m} chain at r) w =
     (rest.0, Carried.first (m, at, after.1) rest.1, rest.2)
 
 pub chains_are_good_lists : ChainsAreGoodLists
-chains_are_good_lists t l r =
+chains_are_good_lists d l r =
     let all = chain_carried r.chain r.within in record { end = all.0; carried = all.1; stands = all.2 }
 
 -- a chain from s by some of the list's moves, to a set that stood in x
@@ -50,6 +50,6 @@ module _ {moves : List Move} (apart : (k : ℕ) (m : Move) → At moves k m → 
       longer step.1 tr (before (apart k m step.1) step.2 tr.within (overlap_or_not m.makes tr.last))
 
 pub good_lists_have_chains : GoodListsHaveChains
-good_lists_have_chains t l good =
-    let tr = traced (λ k m at o. t.checked MakesAndBreaks (OfMove k) (m, at, o)) good.carried good.stands in
+good_lists_have_chains d faultless l good =
+    let tr = traced (λ k m at o. faultless MakesAndBreaks (OfMove k) (m, at, o)) good.carried good.stands in
     (tr.some, record { last = tr.last; chain = tr.chain; within = tr.within }, tr.sublist)

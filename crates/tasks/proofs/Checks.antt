@@ -1,8 +1,9 @@
 -- What the check finds, and what it has then seen of a task.
+use mathlib.Core.HLevel.{is_prop→PathP}
 use Rattle.std.proofs.Common.{◌≡◌, ℕ, ◌+◌, ◌<◌, ◌≤◌, false, length, Decides, subst, inl, inr, ⊎_elim, arith}
 use Rattle.std.proofs.lemmas.Bool.{cases_lt}
 use Rattle.facts.proofs.Tests.{not_true_false}
-use Rattle.tasks.specs.Faults.{HeadingFault, MoveFault, Faulty, FirstPlace, turn}
+use Rattle.tasks.specs.Faults.{HeadingFault, MoveFault, Faulty, Faultless, FirstPlace, turn}
 use Rattle.tasks.specs.Places.{At}
 use Rattle.tasks.specs.Tasks.{draft_of, facts_of, moves_of}
 use Rattle.tasks.specs.declared.draft.Draft.{Draft}
@@ -26,6 +27,10 @@ few_facts t = ⊎_elim (λ l. absurd (t.checked OutOfRange Heading (inr (inl l))
 
 pub some_facts : (t : Task) → 0 < facts_of t
 some_facts t = ⊎_elim (λ l. absurd (t.checked OutOfRange Heading (inl l))) (λ l. omega arith) (cases_lt (facts_of t) 1)
+
+-- a task is told by its draft alone: that it has no fault has one proof
+pub same_task : (t u : Task) → draft_of t ≡ draft_of u → t ≡ u
+same_task t u p = λ i. record { draft = p i; checked = is_prop→PathP (λ j. Faultless (p j)) (λ j. hlevel) t.checked u.checked i }
 
 -- any move will do where a list is read past its end
 abbrev pub no_move : Move

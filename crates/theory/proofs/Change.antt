@@ -4,7 +4,6 @@ use native.Mathlib.Decide.{ℕ_discrete}
 use Rattle.facts.specs.Sets.{Within}
 use Rattle.facts.specs.declared.sets.FactSet.{FactSet}
 use Rattle.tasks.specs.Places.{At}
-use Rattle.tasks.specs.Tasks.{start_of, goal_of, moves_of}
 use Rattle.tasks.specs.declared.moves.Move.{Move}
 use Rattle.tasks.proofs.Places.{at_same}
 use Rattle.costs.specs.Lists.{charge_of}
@@ -118,8 +117,8 @@ module _ {V : Type 0} {tally : Ghosts V} {P : Problem tally} (F : Fitting P) {re
       ord {q = q} (new e f) (old ne b) s w = subst (λ y. Key tally y q) (sym f) (key_shut (ahead_key F.laws (chosen.least _ _ b w)))
       ord (old no-a a) (old no-b b) s w = table.ordered a b s w
 
-      first : (r : Record V) × At recs zero r × (r.set ≡ goal_of P.task) × (r.spent ≡ tally.nil)
-          → (r : Record V) × At (put recs i (shutting c)) zero r × (r.set ≡ goal_of P.task) × (r.spent ≡ tally.nil)
+      first : (r : Record V) × At recs zero r × (r.set ≡ P.draft.goal) × (r.spent ≡ tally.nil)
+          → (r : Record V) × At (put recs i (shutting c)) zero r × (r.set ≡ P.draft.goal) × (r.spent ≡ tally.nil)
       first g = elim (ℕ_discrete zero i) [
         | yes e ↦ (let same = at_same (subst (λ x. At recs x g.0) e g.1) chosen.at in (
           shutting c,
@@ -136,8 +135,8 @@ module _ {V : Type 0} {tally : Ghosts V} {P : Problem tally} (F : Fitting P) {re
       dis (old ne a) (new e f) s = table.distinct a chosen.at (s ∙ ap (λ y. y.set) f) ∙ sym e
       dis (old no-a a) (old no-b b) s = table.distinct a b s
 
-      out : {a : ℕ} {r : Record V} → Put recs i (shutting c) a r → r.mark ≡ Shut → Within r.set (start_of P.task) → ⊥
-      out (new e f) s w = not_there (subst (λ y. Within y.set (start_of P.task)) f w)
+      out : {a : ℕ} {r : Record V} → Put recs i (shutting c) a r → r.mark ≡ Shut → Within r.set P.draft.start → ⊥
+      out (new e f) s w = not_there (subst (λ y. Within y.set P.draft.start) f w)
       out (old ne a) s w = table.outside a s w
 
       rootd : {a : ℕ} {r : Record V} → Put recs i (shutting c) a r → (l : List ℕ) × Rooted P (put recs i (shutting c)) a r l
@@ -148,7 +147,7 @@ module _ {V : Type 0} {tally : Ghosts V} {P : Problem tally} (F : Fitting P) {re
 
 -- a move is taken from the record c, which is shut and comes after all that are shut
 module _ {V : Type 0} {tally : Ghosts V} {P : Problem tally} (F : Fitting P) {recs : List (Record V)} (table : Table P recs) {i : ℕ} {c : Record V} (at : At recs i c)
-    (closed : c.mark ≡ Shut) (above : Above tally recs c) {k : ℕ} {m : Move} (mv : At (moves_of P.task) k m) {t : FactSet} {e : V} (lead : LeadsTo P c m t e) where
+    (closed : c.mark ≡ Shut) (above : Above tally recs c) {k : ℕ} {m : Move} (mv : At P.draft.moves.now k m) {t : FactSet} {e : V} (lead : LeadsTo P c m t e) where
   abbrev laws : Laws tally
   laws = F.laws
 
@@ -210,8 +209,8 @@ module _ {V : Type 0} {tally : Ghosts V} {P : Problem tally} (F : Fitting P) {re
       ord {r = r} (old ne a) (new h f) s w = subst (λ y. Key tally r y) (sym f) (key_trans laws (above.key a s) key_child)
       ord (old no-a a) (old no-b b) s w = table.ordered a b s w
 
-      first : (r : Record V) × At recs zero r × (r.set ≡ goal_of P.task) × (r.spent ≡ tally.nil)
-          → (r : Record V) × At later zero r × (r.set ≡ goal_of P.task) × (r.spent ≡ tally.nil)
+      first : (r : Record V) × At recs zero r × (r.set ≡ P.draft.goal) × (r.spent ≡ tally.nil)
+          → (r : Record V) × At later zero r × (r.set ≡ P.draft.goal) × (r.spent ≡ tally.nil)
       first g = (g.0, ch.forth g.1 (λ h. nz (sym h)), g.2, g.3)
 
       dis : {a b : ℕ} {r q : Record V} → Put recs j (child P i c k m t e) a r → Put recs j (child P i c k m t e) b q → r.set ≡ q.set → a ≡ b
@@ -220,7 +219,7 @@ module _ {V : Type 0} {tally : Ghosts V} {P : Problem tally} (F : Fitting P) {re
       dis (old ne a) (new h f) s = absurd (free.free a ne (s ∙ ap (λ y. y.set) f))
       dis (old no-a a) (old no-b b) s = table.distinct a b s
 
-      out : {a : ℕ} {r : Record V} → Put recs j (child P i c k m t e) a r → r.mark ≡ Shut → Within r.set (start_of P.task) → ⊥
+      out : {a : ℕ} {r : Record V} → Put recs j (child P i c k m t e) a r → r.mark ≡ Shut → Within r.set P.draft.start → ⊥
       out (new h f) s w = not_both s (ap (λ y. y.mark) f)
       out (old ne a) s w = table.outside a s w
 

@@ -91,6 +91,7 @@ fitting : (S : Setting) → Fitting (posed S)
 fitting S = record {
   roomy = S.some;
   laws = record { lawful = S.law };
+  faultless = (task_in S).checked;
   trusted = record { sound = sound S.join (task_in S); drawn = (usable_in S).drawn };
 }
 
@@ -188,7 +189,7 @@ trail cost = up (λ e. omega arith) (there (there (there here))) (up (λ e. omeg
 pub worked : Worked
 unfolding new answer and_run
 worked = record {
-  honest = record { sound = λ fits. sound ◌+◌ small };
+  honest = record { checked = small.checked; sound = λ fits. sound ◌+◌ small };
   four_runs =
       (let second = and_run four_places 1 (lit≤ tt) (new four_places) in
       let third = and_run four_places 1 (lit≤ tt) second in

@@ -13,7 +13,7 @@ use Rattle.theory.specs.declared.reply.Reply.{Reply}
 
 -- the problem with another bound
 abbrev pub by_bound : {V : Type 0} {tally : Ghosts V} → Problem tally → Lent V → Problem tally
-by_bound P b = record { task = P.task; bound = b; room = P.room }
+by_bound P b = record { draft = P.draft; bound = b; room = P.room }
 
 -- from one bound to another with the same estimates
 module _ {V : Type 0} {tally : Ghosts V} (P : Problem tally) (b d : Lent V) (same : (s : FactSet) → b.estimate s ≡ d.estimate s) where

@@ -1,14 +1,13 @@
 -- What every queue keeps, call by call.
 use Rattle.std.proofs.Common.{◌≡◌, ℕ, zero, suc, ◌+◌, ◌<◌, ◌≤◌, ◌⊎◌, List, [], ◌∷◌, length, sym, refl, ap, ◌∙◌, subst, subst₂, inl, inr, arith}
-use Rattle.tasks.specs.Lists.{Good}
+use Rattle.tasks.specs.Lists.{GoodIn}
 use Rattle.tasks.specs.Places.{At, here, there}
-use Rattle.tasks.specs.Tasks.{moves_of}
 use Rattle.tasks.proofs.Places.{at_same}
 use Rattle.costs.specs.Laws.{Lawful}
 use Rattle.costs.specs.Lists.{Costs}
 use Rattle.costs.specs.declared.tally.Tally.{Ghosts}
 use Rattle.theory.specs.Problem.{Problem, Lent, handed, Usable, Roomy, Honest}
-use Rattle.theory.specs.Meets.{MeetsMore}
+use Rattle.theory.specs.Meets.{MeetsMoreIn}
 use Rattle.theory.specs.Records.{First, goal_waits, no_hope}
 use Rattle.theory.specs.Runs.{Trail, Tells, tells_plan, tells_none, tells_full, Runs, again, finds, goes_on}
 use Rattle.theory.specs.Queue.{Call, run, read_out, Answer, ran, read, refused, State, kept, holding, Makes, no_place, too_many_places, fresh, Answers}
@@ -33,7 +32,7 @@ use Rattle.theory.proofs.Told.{uncounted, Said, Listed, trail_same, run_says, ru
 -- a bound with the same estimates makes no difference to a run
 pub handed_same : {V : Type 0} {tally : Ghosts V} (P : Problem tally) (b : Lent V) → SameEstimates P b → handed P b ≡ P
 handed_same P b same = λ i. record {
-  task = P.task;
+  draft = P.draft;
   bound = record { fits = P.bound.fits; estimate = λ s. same s i; share = P.bound.share };
   room = P.room;
 }
@@ -258,6 +257,7 @@ module _ {V : Type 0} {tally : Ghosts V} (laws : Laws tally) {P : Problem tally}
   fitting roomy usable = record {
     roomy = roomy.some;
     laws = laws;
+    faultless = honest.checked;
     trusted = record { sound = honest.sound usable.fitting; drawn = usable.drawn };
   }
 
@@ -298,8 +298,8 @@ module _ {V : Type 0} {tally : Ghosts V} {P : Problem tally} (F : Fitting P) whe
       let path = rooted_leads F rooted in
       let same = trail_same (rooted_trail rooted) trail in
       record {
-        good = subst (λ x. Good P.task x) same (leads_good path w);
-        costs = subst₂ (λ x y. Costs tally (moves_of P.task) x y.spent) same (at_same (rooted_at rooted) a) (leads_costs path);
+        good = subst (λ x. GoodIn P.draft x) same (leads_good path w);
+        costs = subst₂ (λ x y. Costs tally P.draft.moves.now x y.spent) same (at_same (rooted_at rooted) a) (leads_costs path);
         length_told = ap length (trail_same trail t);
       }
   plan_readable st tells_none e b = elim b [ ]
@@ -311,13 +311,13 @@ module _ {V : Type 0} {tally : Ghosts V} {P : Problem tally} (F : Fitting P) whe
   plan_attained st (tells_full a) e = impossible (cc)
 
   none_hopeless : {recs : List (Record V)} {end : End} {s : Reply V} → Standing P recs end → Tells P recs end s → s.kind ≡ NoPlan
-      → (l : List ℕ) → Good P.task l → ⊥
+      → (l : List ℕ) → GoodIn P.draft l → ⊥
   none_hopeless st (tells_plan a t) e = impossible (cc)
   none_hopeless (gave_up never) tells_none e = never
   none_hopeless st (tells_full a) e = impossible (cc)
 
   full_crowded : {recs : List (Record V)} {end : End} {s : Reply V} → Standing P recs end → Tells P recs end s → s.kind ≡ Full
-      → FloorAt P s.value × MeetsMore P.task P.room
+      → FloorAt P s.value × MeetsMoreIn P.draft P.room
   full_crowded st (tells_plan a t) e = impossible (cc)
   full_crowded st tells_none e = impossible (cc)
   full_crowded (overfull b floor crowd) (tells_full a) e = (subst (λ c. FloorAt P c.promise) (at_same b a) floor, crowd)

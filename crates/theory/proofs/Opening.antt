@@ -4,7 +4,6 @@ use native.Mathlib.Decide.{ℕ_discrete}
 use Rattle.facts.specs.declared.sets.FactSet.{FactSet}
 use Rattle.tasks.specs.Moves.{Regresses}
 use Rattle.tasks.specs.Places.{At}
-use Rattle.tasks.specs.Tasks.{moves_of}
 use Rattle.tasks.specs.declared.moves.Move.{Move}
 use Rattle.tasks.proofs.Bearing.{regresses_same}
 use Rattle.tasks.proofs.Places.{at_same, at_less}
@@ -42,7 +41,7 @@ module _ {V : Type 0} {tally : Ghosts V} {P : Problem tally} (F : Fitting P) whe
   abbrev laws : Laws tally
   laws = F.laws
 
-  covered_by : {recs : List (Record V)} {c : Record V} {k : ℕ} {t : FactSet} {m : Move} → At (moves_of P.task) k m → Regresses m c.set t
+  covered_by : {recs : List (Record V)} {c : Record V} {k : ℕ} {t : FactSet} {m : Move} → At P.draft.moves.now k m → Regresses m c.set t
       → Kept P recs t (spent_by P c m) → Covered P recs c k
   covered_by {recs} {c} {k} {t} {m} at g kept = record {
     keeps = λ {m = n} {t = u} at' g' h.
@@ -72,7 +71,7 @@ module _ {V : Type 0} {tally : Ghosts V} {P : Problem tally} (F : Fitting P) whe
       further a s n h (no ne) = o.covered a s n (λ f. let g = h f in omega (arith, ne))
 
   -- a child is written or added
-  with_child : {recs later : List (Record V)} {i j k : ℕ} {t : FactSet} {c : Record V} {m : Move} {e : V} → Opening P recs i c k → At (moves_of P.task) k m
+  with_child : {recs later : List (Record V)} {i j k : ℕ} {t : FactSet} {c : Record V} {m : Move} {e : V} → Opening P recs i c k → At P.draft.moves.now k m
       → LeadsTo P c m t e → Changed recs later j (child P i c k m t e) → OverWaiting recs j → NoDearer tally recs j (child P i c k m t e)
       → Free recs j t → (j ≡ zero → ⊥) → length later ≤ P.room → Opening P later i c (suc k)
   with_child {recs} {later} {i} {j} {k} {t} {c} {m} {e} o mv lead ch over less free nz room =
@@ -107,7 +106,7 @@ module _ {V : Type 0} {tally : Ghosts V} {P : Problem tally} (F : Fitting P) whe
     elsewhere : {j : ℕ} {q : Record V} → At recs j q → q.mark ≡ Shut → j ≡ i → ⊥
     elsewhere {q = q} a s e = not_both s (ap (λ y. y.mark) (at_same (subst (λ x. At recs x q) e a) at) ∙ waits)
 
-    pub take_step : {k : ℕ} {m : Move} {later : List (Record V)} → Opening P (put recs i (shutting c)) i (shutting c) k → At (moves_of P.task) k m
+    pub take_step : {k : ℕ} {m : Move} {later : List (Record V)} → Opening P (put recs i (shutting c)) i (shutting c) k → At P.draft.moves.now k m
         → Takes P recs i c k m later → At later i c × Opening P (put later i (shutting c)) i (shutting c) (suc k)
     take_step {k} {m} o mv (not_regressing none) =
         (at, advance o (record { keeps = λ {t = u} at' g h. absurd (none u (subst (λ y. Regresses y c.set u) (at_same at' mv) g)) }))
@@ -213,5 +212,5 @@ module _ {V : Type 0} {tally : Ghosts V} {P : Problem tally} (F : Fitting P) whe
       subst (λ x. Table P (put mid i (shutting x)) × Settled P (put mid i (shutting x))) (at_same so_far.0 at)
       (so_far.1.table, record { covered = λ a s k. record { keeps = λ mv g h. (so_far.1.covered a s k (λ e. at_less mv)).keeps mv g h } })
     where
-      so_far : At mid i c × Opening P (put mid i (shutting c)) i (shutting c) (length (moves_of P.task))
+      so_far : At mid i c × Opening P (put mid i (shutting c)) i (shutting c) (length P.draft.moves.now)
       so_far = take_first table settled chosen not_there all

@@ -2,10 +2,10 @@
 use Rattle.std.proofs.Common.{◌≡◌, ℕ, ◌≤◌, Bool, T, List, [], ◌∷◌, refl, subst, None, Some}
 use Rattle.facts.specs.Sets.{Within}
 use Rattle.facts.specs.declared.sets.FactSet.{FactSet}
-use Rattle.tasks.specs.Lists.{Carried, Good, Chain}
+use Rattle.tasks.specs.Faults.{Faultless}
+use Rattle.tasks.specs.Lists.{Carried, GoodIn, Chain}
 use Rattle.tasks.specs.Moves.{Regresses}
 use Rattle.tasks.specs.Places.{At}
-use Rattle.tasks.specs.Tasks.{start_of, goal_of, moves_of}
 use Rattle.tasks.specs.declared.moves.Move.{Move}
 use Rattle.tasks.proofs.Chains.{chains_are_good_lists, good_lists_have_chains}
 use Rattle.tasks.proofs.Places.{at_same}
@@ -23,27 +23,28 @@ use Rattle.theory.proofs.Order.{Laws, Le}
 pub record Fitting {V : Type 0} {tally : Ghosts V} (P : Problem tally) : Type 0 where
   pub roomy : 1 ≤ P.room
   pub laws : Laws tally
-  pub trusted : Trusted tally P.task P.bound.estimate P.bound.share
+  pub faultless : Faultless P.draft
+  pub trusted : Trusted tally P.draft P.bound.estimate P.bound.share
 
 -- a chain together with the cost of its list
 pub data Leads {V : Type 0} {tally : Ghosts V} (P : Problem tally) (s : FactSet) : List ℕ → FactSet → V → Type 0 where
   stay : Leads P s [] s tally.nil
-  back : {k : ℕ} {t u : FactSet} {m : Move} {l : List ℕ} {v : V} → Leads P s l t v → At (moves_of P.task) k m → Regresses m t u
+  back : {k : ℕ} {t u : FactSet} {m : Move} {l : List ℕ} {v : V} → Leads P s l t v → At P.draft.moves.now k m → Regresses m t u
       → Leads P s (k ∷ l) u (tally.join (charge_of tally m) v)
 
 module _ {V : Type 0} {tally : Ghosts V} {P : Problem tally} where
-  leads_chain : {s u : FactSet} {l : List ℕ} {v : V} → Leads P s l u v → Chain (moves_of P.task) s l u
+  leads_chain : {s u : FactSet} {l : List ℕ} {v : V} → Leads P s l u v → Chain P.draft.moves.now s l u
   leads_chain stay = Chain.none
   leads_chain (back p at r) = Chain.back (leads_chain p) at r
 
-  pub leads_costs : {s u : FactSet} {l : List ℕ} {v : V} → Leads P s l u v → Costs tally (moves_of P.task) l v
+  pub leads_costs : {s u : FactSet} {l : List ℕ} {v : V} → Leads P s l u v → Costs tally P.draft.moves.now l v
   leads_costs stay = nothing
   leads_costs (back p at r) = and_move at (leads_costs p)
 
-  pub leads_good : {u : FactSet} {l : List ℕ} {v : V} → Leads P (goal_of P.task) l u v → Within u (start_of P.task) → Good P.task l
-  leads_good {u = u} {l = l} p w = chains_are_good_lists P.task l (record { last = u; chain = leads_chain p; within = w })
+  pub leads_good : {u : FactSet} {l : List ℕ} {v : V} → Leads P P.draft.goal l u v → Within u P.draft.start → GoodIn P.draft l
+  leads_good {u = u} {l = l} p w = chains_are_good_lists P.draft l (record { last = u; chain = leads_chain p; within = w })
 
-  chain_leads : {s u : FactSet} {l : List ℕ} {v : V} → Chain (moves_of P.task) s l u → Costs tally (moves_of P.task) l v → Leads P s l u v
+  chain_leads : {s u : FactSet} {l : List ℕ} {v : V} → Chain P.draft.moves.now s l u → Costs tally P.draft.moves.now l v → Leads P s l u v
   chain_leads Chain.none nothing = stay
   chain_leads {s = s} (Chain.back {u = u} {k = k} {l = l} c at r) (and_move {v = v} at' costs) =
       subst (λ m. Leads P s (k ∷ l) u (tally.join (charge_of tally m) v)) (at_same at at') (back (chain_leads c costs) at r)
@@ -60,8 +61,8 @@ pub record Way {V : Type 0} {tally : Ghosts V} (P : Problem tally) (v : V) : Typ
   pub moves : List ℕ
   pub last : FactSet
   pub cost : V
-  pub leads : Leads P (goal_of P.task) moves last cost
-  pub within : Within last (start_of P.task)
+  pub leads : Leads P P.draft.goal moves last cost
+  pub within : Within last P.draft.start
   pub cheap : Le tally cost v
 
 value_below : {V : Type 0} (at_most : V → V → Bool) (join : V → V → V) (w : V) (o p : Estimate V) (e : V)
@@ -76,9 +77,9 @@ module _ {V : Type 0} {tally : Ghosts V} {P : Problem tally} (F : Fitting P) whe
   laws = F.laws
 
   -- what a list carries out, regression can follow, skipping the moves that make nothing of the set
-  pub good_way : {l : List ℕ} {v : V} → Good P.task l → Costs tally (moves_of P.task) l v → Way P v
+  pub good_way : {l : List ℕ} {v : V} → GoodIn P.draft l → Costs tally P.draft.moves.now l v → Way P v
   good_way {l = l} good costs =
-      let found = good_lists_have_chains P.task l good in
+      let found = good_lists_have_chains P.draft F.faultless l good in
       let less = sublist_costs laws.lawful found.2 costs in
       record {
         moves = found.0;
@@ -90,7 +91,7 @@ module _ {V : Type 0} {tally : Ghosts V} {P : Problem tally} (F : Fitting P) whe
       }
 
   -- where the estimate of t is a value, so is that of s, at most the charge more
-  pub consistent : {k : ℕ} {m : Move} {s t : FactSet} → At (moves_of P.task) k m → Regresses m s t → {e : V} → P.bound.estimate t ≡ Some e
+  pub consistent : {k : ℕ} {m : Move} {s t : FactSet} → At P.draft.moves.now k m → Regresses m s t → {e : V} → P.bound.estimate t ≡ Some e
       → (d : V) × (P.bound.estimate s ≡ Some d) × Le tally d (tally.join (charge_of tally m) e)
   consistent {m = m} {s = s} {t = t} at r {e} h =
       let got = value_below tally.at_most tally.join (charge_of tally m) (P.bound.estimate s) (P.bound.estimate t) e

@@ -4,7 +4,6 @@ use native.Mathlib.Decide.{dec_lt}
 use Rattle.facts.specs.Sets.{Within}
 use Rattle.facts.specs.declared.sets.FactSet.{FactSet}
 use Rattle.tasks.specs.Places.{At, here, there}
-use Rattle.tasks.specs.Tasks.{start_of, moves_of}
 use Rattle.tasks.specs.declared.moves.Move.{Move}
 use Rattle.costs.specs.declared.tally.Tally.{Ghosts}
 use Rattle.theory.specs.Problem.{Problem}
@@ -144,7 +143,7 @@ module _ {V : Type 0} {tally : Ghosts V} {P : Problem tally} (F : Fitting P) whe
       ]
 
   -- the first moves are taken, or one finds no room
-  unfoldable pub take_some : (recs : List (Record V)) (i : ℕ) (c : Record V) (n : ℕ) → n ≤ length (moves_of P.task)
+  unfoldable pub take_some : (recs : List (Record V)) (i : ℕ) (c : Record V) (n : ℕ) → n ≤ length P.draft.moves.now
       → ((later : List (Record V)) × TakesFirst P recs i c n later) ⊎ ((mid : List (Record V)) × Overflows P recs i c mid)
   take_some recs i c zero h = inl (recs, none_yet)
   take_some recs i c (suc n) h = next (take_some recs i c n (omega arith))
@@ -152,7 +151,7 @@ module _ {V : Type 0} {tally : Ghosts V} {P : Problem tally} (F : Fitting P) whe
       next : ((later : List (Record V)) × TakesFirst P recs i c n later) ⊎ ((mid : List (Record V)) × Overflows P recs i c mid)
           → ((later : List (Record V)) × TakesFirst P recs i c (suc n) later) ⊎ ((mid : List (Record V)) × Overflows P recs i c mid)
       next (inr o) = inr o
-      next (inl b) = (let mv = at_some (moves_of P.task) n h in elim (take_one b.0 i c n mv.0) [
+      next (inl b) = (let mv = at_some P.draft.moves.now n h in elim (take_one b.0 i c n mv.0) [
         | inl step ↦ inl (step.0, and_next b.1 mv.1 step.1)
         | inr f ↦ inr (b.0, overflows b.1 mv.1 f.2 f.3 f.4)
       ])
@@ -161,7 +160,7 @@ module _ {V : Type 0} {tally : Ghosts V} {P : Problem tally} (F : Fitting P) whe
     unfoldable pub out_of_records : (n : ℕ) → NoneWaits recs → Responds P n recs Going
     out_of_records n none = record { reply = _; later = recs; last = Exhausted; runs = runs_out none }
 
-    unfoldable pub found : (n : ℕ) {i : ℕ} {c : Record V} → Chosen tally recs i c → Within c.set (start_of P.task) → Responds P n recs Going
+    unfoldable pub found : (n : ℕ) {i : ℕ} {c : Record V} → Chosen tally recs i c → Within c.set P.draft.start → Responds P n recs Going
     found n {i} ch w = record {
       reply = _;
       later = recs;
@@ -172,7 +171,7 @@ module _ {V : Type 0} {tally : Ghosts V} {P : Problem tally} (F : Fitting P) whe
     -- an opening, or a move that finds no room
     unfoldable pub opening : {i : ℕ} {c : Record V} → Chosen tally recs i c → Outside P c
         → ((mid : List (Record V)) × Opens P recs i c mid) ⊎ ((mid : List (Record V)) × Overflows P recs i c mid)
-    opening {i} {c} ch out = elim (take_some recs i c (length (moves_of P.task)) (omega arith)) [
+    opening {i} {c} ch out = elim (take_some recs i c (length P.draft.moves.now) (omega arith)) [
       | inl all ↦ inl (put all.0 i (shutting c), opens all.1 (take_first F table settled ch out all.1).0)
       | inr o ↦ inr o
     ]
@@ -180,14 +179,14 @@ module _ {V : Type 0} {tally : Ghosts V} {P : Problem tally} (F : Fitting P) whe
   unfoldable pub works : (n : ℕ) {recs : List (Record V)} → Table P recs → Settled P recs → Responds P n recs Going
   works zero {recs} table settled = elim (choice laws recs) [
     | inr none ↦ out_of_records table settled zero none
-    | inl f ↦ elim (within_or_not f.1.set (start_of P.task)) [
+    | inl f ↦ elim (within_or_not f.1.set P.draft.start) [
       | inl w ↦ found table settled zero f.2 w
       | inr out ↦ record { reply = tell_pending f.1; later = recs; last = Going; runs = pauses f.2 out }
     ]
   ]
   works (suc n) {recs} table settled = elim (choice laws recs) [
     | inr none ↦ out_of_records table settled (suc n) none
-    | inl f ↦ elim (within_or_not f.1.set (start_of P.task)) [
+    | inl f ↦ elim (within_or_not f.1.set P.draft.start) [
       | inl w ↦ found table settled (suc n) f.2 w
       | inr out ↦ elim (opening table settled f.2 out) [
         | inr o ↦ record { reply = _; later = o.0; last = Filled f.0; runs = fills f.2 out o.1 }

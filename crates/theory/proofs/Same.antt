@@ -4,7 +4,6 @@ use native.Mathlib.Decide.{ℕ_discrete, dec_lt}
 use Rattle.facts.specs.Sets.{Within}
 use Rattle.facts.specs.declared.sets.FactSet.{FactSet}
 use Rattle.tasks.specs.Places.{At}
-use Rattle.tasks.specs.Tasks.{start_of, moves_of}
 use Rattle.tasks.specs.declared.moves.Move.{Move}
 use Rattle.tasks.proofs.Bearing.{regresses_same}
 use Rattle.tasks.proofs.Places.{at_same, at_less}
@@ -153,7 +152,7 @@ module _ {V : Type 0} {tally : Ghosts V} {P : Problem tally} (F : Fitting P) whe
 
     -- who took n moves took each before them
     taken : {n : ℕ} {later : List (Record V)} → TakesFirst P recs i c n later → {k : ℕ} → k < n
-        → (mid : List (Record V)) × (m : Move) × (next : List (Record V)) × TakesFirst P recs i c k mid × At (moves_of P.task) k m × Takes P mid i c k m next
+        → (mid : List (Record V)) × (m : Move) × (next : List (Record V)) × TakesFirst P recs i c k mid × At P.draft.moves.now k m × Takes P mid i c k m next
     taken none_yet h = absurd (omega arith)
     taken (and_next {k = n} {m = m} {mid = mid} {later = later} before mv step) {k} h = elim (ℕ_discrete n k) [
       | yes e ↦ (
@@ -161,14 +160,14 @@ module _ {V : Type 0} {tally : Ghosts V} {P : Problem tally} (F : Fitting P) whe
         m,
         later,
         subst (λ x. TakesFirst P recs i c x mid) e before,
-        subst (λ x. At (moves_of P.task) x m) e mv,
+        subst (λ x. At P.draft.moves.now x m) e mv,
         subst (λ x. Takes P mid i c x m later) e step,
       )
       | no ne ↦ taken before (omega (arith, ne))
     ]
 
     -- a move that found no room was not among those taken
-    not_past : {k n : ℕ} {t : FactSet} {m : Move} {e : V} {mid later : List (Record V)} → TakesFirst P recs i c k mid → At (moves_of P.task) k m
+    not_past : {k n : ℕ} {t : FactSet} {m : Move} {e : V} {mid later : List (Record V)} → TakesFirst P recs i c k mid → At P.draft.moves.now k m
         → LeadsTo P c m t e
         → Unrecorded mid t → P.room ≤ length mid → TakesFirst P recs i c n later → k < n → ⊥
     not_past {k} {n} {t} {m} {e} {mid} before mv lead none room all h =
@@ -194,9 +193,9 @@ module _ {V : Type 0} {tally : Ghosts V} {P : Problem tally} (F : Fitting P) whe
     not_both_ways (overflows before mv lead none room) (opens all at) = not_past before mv lead none room all (at_less mv)
 
   -- two choices lie within the start or not alike
-  there : {recs : List (Record V)} {i j : ℕ} {c d : Record V} → Chosen tally recs i c → Chosen tally recs j d → Within c.set (start_of P.task)
-      → Within d.set (start_of P.task)
-  there a b w = subst (λ x. Within x.set (start_of P.task)) (chosen_same a b).1 w
+  there : {recs : List (Record V)} {i j : ℕ} {c d : Record V} → Chosen tally recs i c → Chosen tally recs j d → Within c.set P.draft.start
+      → Within d.set P.draft.start
+  there a b w = subst (λ x. Within x.set P.draft.start) (chosen_same a b).1 w
 
   pub runs_same : {n : ℕ} {recs : List (Record V)} {end : End} {r s : Reply V} {a b : List (Record V)} {e f : End} → Standing P recs end
       → Runs P n recs end r a e → Runs P n recs end s b f → SameRun r s a b e f

@@ -3,7 +3,6 @@ use Rattle.std.proofs.Common.{◌≡◌, ℕ, zero, suc, ◌<◌, ◌≤◌, Boo
 use native.Mathlib.Decide.{ℕ_discrete, dec_lt}
 use Rattle.facts.proofs.Tests.{not_true_false}
 use Rattle.tasks.specs.Places.{At, here, there}
-use Rattle.tasks.specs.Tasks.{goal_of, moves_of}
 use Rattle.tasks.specs.declared.moves.Move.{Move}
 use Rattle.costs.specs.Laws.{Lawful}
 use Rattle.costs.specs.Lists.{charge_of}
@@ -55,7 +54,7 @@ module _ {V : Type 0} {tally : Ghosts V} (P : Problem tally) where
     where
       by_fit : (fits : Bool) → b.fits ≡ fits → Usable P b ⊎ ((why : Refusal) × Unusable P b why)
       by_fit false e = inr (Misfit, misfit e)
-      by_fit true e = elim (over_or_not (moves_of P.task) (λ k m. tally.at_most (b.share k) (charge_of tally m))) [
+      by_fit true e = elim (over_or_not P.draft.moves.now (λ k m. tally.at_most (b.share k) (charge_of tally m))) [
         | inl o ↦ inr (Overdrawn, overdrawn e o)
         | inr none ↦ inl (record { fitting = e; drawn = none })
       ]
@@ -89,7 +88,7 @@ module _ {V : Type 0} {tally : Ghosts V} (P : Problem tally) where
   makes_same (fresh roomy u f) (fresh roomy' v g) = ap (λ recs. holding recs Going) (first_same f g)
 
   first_records : (recs : List (Record V)) × First P recs
-  first_records = elim (hoped_or_not (P.bound.estimate (goal_of P.task))) [
+  first_records = elim (hoped_or_not (P.bound.estimate P.draft.goal)) [
     | inl never ↦ ([], no_hope never)
     | inr hope ↦ (goal_record P hope.0 ∷ [], goal_waits hope.1)
   ]

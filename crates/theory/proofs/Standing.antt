@@ -3,14 +3,13 @@ use Rattle.std.proofs.Common.{◌≡◌, ℕ, zero, suc, ◌≤◌, List, [], �
 use lib.ListN.{length-map}
 use Rattle.facts.specs.Sets.{Within}
 use Rattle.facts.specs.declared.sets.FactSet.{FactSet}
-use Rattle.tasks.specs.Lists.{Good}
+use Rattle.tasks.specs.Lists.{GoodIn}
 use Rattle.tasks.specs.Places.{At, here, there}
-use Rattle.tasks.specs.Tasks.{start_of, goal_of, moves_of}
 use Rattle.tasks.specs.declared.moves.Move.{Move}
 use Rattle.costs.specs.Lists.{Costs}
 use Rattle.costs.specs.declared.tally.Tally.{Ghosts}
 use Rattle.theory.specs.Problem.{Problem}
-use Rattle.theory.specs.Meets.{Meets, MeetsMore}
+use Rattle.theory.specs.Meets.{Meets, MeetsMoreIn}
 use Rattle.theory.specs.Records.{First, goal_waits, no_hope, Chosen, shutting}
 use Rattle.theory.specs.Openings.{LeadsTo, Unrecorded, Overflows, overflows}
 use Rattle.theory.specs.Runs.{Outside, Runs, again, runs_out, finds, pauses, fills, goes_on}
@@ -28,14 +27,14 @@ use Rattle.theory.proofs.Opening.{Opening, take_first, seen_shut, opened}
 
 -- no good list costs less than x
 pub record FloorAt {V : Type 0} {tally : Ghosts V} (P : Problem tally) (x : V) : Type 0 where
-  pub below : {l : List ℕ} {v : V} → Good P.task l → Costs tally (moves_of P.task) l v → Le tally x v
+  pub below : {l : List ℕ} {v : V} → GoodIn P.draft l → Costs tally P.draft.moves.now l v → Le tally x v
 
 pub data Standing {V : Type 0} {tally : Ghosts V} (P : Problem tally) (recs : List (Record V)) : End → Type 0 where
   at_work : Table P recs → Settled P recs → Standing P recs Going
-  found_plan : {i : ℕ} {c : Record V} {l : List ℕ} → Rooted P recs i c l → Within c.set (start_of P.task) → FloorAt P c.spent
+  found_plan : {i : ℕ} {c : Record V} {l : List ℕ} → Rooted P recs i c l → Within c.set P.draft.start → FloorAt P c.spent
       → Standing P recs (Planned i)
-  gave_up : ((l : List ℕ) → Good P.task l → ⊥) → Standing P recs Exhausted
-  overfull : {i : ℕ} {c : Record V} → At recs i c → FloorAt P c.promise → MeetsMore P.task P.room → Standing P recs (Filled i)
+  gave_up : ((l : List ℕ) → GoodIn P.draft l → ⊥) → Standing P recs Exhausted
+  overfull : {i : ℕ} {c : Record V} → At recs i c → FloorAt P c.promise → MeetsMoreIn P.draft P.room → Standing P recs (Filled i)
 
 map_at : {A B : Type 0} (f : A → B) (l : List A) {i : ℕ} {y : B} → At (map f l) i y → (x : A) × At l i x × (f x ≡ y)
 map_at f [] p = elim p [ ]
@@ -46,7 +45,7 @@ module _ {V : Type 0} {tally : Ghosts V} {P : Problem tally} (F : Fitting P) whe
   abbrev laws : Laws tally
   laws = F.laws
 
-  unfoldable pub alone : {e : V} → P.bound.estimate (goal_of P.task) ≡ Some e → (r : Record V) → r.set ≡ goal_of P.task
+  unfoldable pub alone : {e : V} → P.bound.estimate P.draft.goal ≡ Some e → (r : Record V) → r.set ≡ P.draft.goal
       → r.spent ≡ tally.nil → r.promise ≡ e → r.mark ≡ Waiting → Standing P (r ∷ []) Going
   alone {e} h r is-goal is-nil is-e waits = at_work
       (record {
@@ -96,8 +95,8 @@ module _ {V : Type 0} {tally : Ghosts V} {P : Problem tally} (F : Fitting P) whe
 
   -- a move that finds no room: the sets recorded, and one more, are all met
   crowd : {mid : List (Record V)} {i k : ℕ} {t : FactSet} {c : Record V} {m : Move} {e : V} → At mid i c
-      → Opening P (put mid i (shutting c)) i (shutting c) k → At (moves_of P.task) k m → LeadsTo P c m t e → Unrecorded mid t
-      → P.room ≤ length mid → MeetsMore P.task P.room
+      → Opening P (put mid i (shutting c)) i (shutting c) k → At P.draft.moves.now k m → LeadsTo P c m t e → Unrecorded mid t
+      → P.room ≤ length mid → MeetsMoreIn P.draft P.room
   crowd {mid} {i} {k} {t} {c} {m} at o mv lead none room = record {
     sets = t ∷ map (λ r. r.set) mid;
     more = let b = length-map mid (λ r. r.set) in omega arith;
@@ -105,12 +104,12 @@ module _ {V : Type 0} {tally : Ghosts V} {P : Problem tally} (F : Fitting P) whe
     distinct = λ a b s p q. apart p q refl;
   }
     where
-      meets : {j : ℕ} {s : FactSet} → At (t ∷ map (λ r. r.set) mid) j s → Meets P.task s
+      meets : {j : ℕ} {s : FactSet} → At (t ∷ map (λ r. r.set) mid) j s → Meets P.draft s
       meets here = Meets.back (rooted_met (o.table.rooted o.at).1) mv lead.regresses
       meets (there a) =
           let x = map_at (λ r. r.set) mid a in
           let y = seen_shut F at x.1 in
-          subst (λ s. Meets P.task s) (y.2 ∙ x.2) (rooted_met (o.table.rooted y.1).1)
+          subst (λ s. Meets P.draft s) (y.2 ∙ x.2) (rooted_met (o.table.rooted y.1).1)
 
       apart : {a b : ℕ} {s s' : FactSet} → At (t ∷ map (λ r. r.set) mid) a s → At (t ∷ map (λ r. r.set) mid) b s' → s ≡ s' → a ≡ b
       apart here here e = refl

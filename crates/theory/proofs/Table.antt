@@ -2,10 +2,9 @@
 use Rattle.std.proofs.Common.{◌≡◌, ℕ, zero, ◌≤◌, List, [], ◌∷◌, length, sym, ap, ◌∙◌, subst, inl, inr, None, Some}
 use Rattle.facts.specs.Sets.{Within}
 use Rattle.facts.specs.declared.sets.FactSet.{FactSet}
-use Rattle.tasks.specs.Lists.{Good}
+use Rattle.tasks.specs.Lists.{GoodIn}
 use Rattle.tasks.specs.Moves.{Regresses}
 use Rattle.tasks.specs.Places.{At}
-use Rattle.tasks.specs.Tasks.{start_of, goal_of, moves_of}
 use Rattle.tasks.specs.declared.moves.Move.{Move}
 use Rattle.costs.specs.Lists.{charge_of, Costs}
 use Rattle.costs.specs.declared.tally.Tally.{Ghosts}
@@ -23,8 +22,8 @@ use Rattle.theory.proofs.Paths.{Fitting, Leads, stay, back, Way, good_way, consi
 
 -- record i is r, and the list l leads from it to record 0; each record after r is shut
 pub data Rooted {V : Type 0} {tally : Ghosts V} (P : Problem tally) (recs : List (Record V)) : ℕ → Record V → List ℕ → Type 0 where
-  top : {r : Record V} → At recs zero r → r.set ≡ goal_of P.task → r.spent ≡ tally.nil → Rooted P recs zero r []
-  under : {i : ℕ} {m : Move} {r p : Record V} {l : List ℕ} → (i ≡ zero → ⊥) → At recs i r → At (moves_of P.task) r.via m
+  top : {r : Record V} → At recs zero r → r.set ≡ P.draft.goal → r.spent ≡ tally.nil → Rooted P recs zero r []
+  under : {i : ℕ} {m : Move} {r p : Record V} {l : List ℕ} → (i ≡ zero → ⊥) → At recs i r → At P.draft.moves.now r.via m
       → Regresses m p.set r.set → r.spent ≡ tally.join p.spent (charge_of tally m) → p.mark ≡ Shut → Rooted P recs r.parent p l
       → Rooted P recs i r (r.via ∷ l)
 
@@ -36,10 +35,10 @@ pub record Estimated {V : Type 0} {tally : Ghosts V} (P : Problem tally) (r : Re
 pub record Table {V : Type 0} {tally : Ghosts V} (P : Problem tally) (recs : List (Record V)) : Type 0 where
   pub estimated : {i : ℕ} {r : Record V} → At recs i r → Estimated P r
   pub ordered : {i j : ℕ} {r q : Record V} → At recs i r → At recs j q → r.mark ≡ Shut → q.mark ≡ Waiting → Key tally r q
-  pub goal_first : {e : V} → P.bound.estimate (goal_of P.task) ≡ Some e
-      → (r : Record V) × At recs zero r × (r.set ≡ goal_of P.task) × (r.spent ≡ tally.nil)
+  pub goal_first : {e : V} → P.bound.estimate P.draft.goal ≡ Some e
+      → (r : Record V) × At recs zero r × (r.set ≡ P.draft.goal) × (r.spent ≡ tally.nil)
   pub distinct : {i j : ℕ} {r q : Record V} → At recs i r → At recs j q → r.set ≡ q.set → i ≡ j
-  pub outside : {i : ℕ} {r : Record V} → At recs i r → r.mark ≡ Shut → Within r.set (start_of P.task) → ⊥
+  pub outside : {i : ℕ} {r : Record V} → At recs i r → r.mark ≡ Shut → Within r.set P.draft.start → ⊥
   pub rooted : {i : ℕ} {r : Record V} → At recs i r → (l : List ℕ) × Rooted P recs i r l
   pub fits : length recs ≤ P.room
 
@@ -53,7 +52,7 @@ pub record Kept {V : Type 0} {tally : Ghosts V} (P : Problem tally) (recs : List
 
 -- what move k makes of the record r has been recorded
 pub record Covered {V : Type 0} {tally : Ghosts V} (P : Problem tally) (recs : List (Record V)) (r : Record V) (k : ℕ) : Type 0 where
-  pub keeps : {m : Move} {t : FactSet} {e : V} → At (moves_of P.task) k m → Regresses m r.set t → P.bound.estimate t ≡ Some e
+  pub keeps : {m : Move} {t : FactSet} {e : V} → At P.draft.moves.now k m → Regresses m r.set t → P.bound.estimate t ≡ Some e
       → Kept P recs t (tally.join r.spent (charge_of tally m))
 
 pub record Settled {V : Type 0} {tally : Ghosts V} (P : Problem tally) (recs : List (Record V)) : Type 0 where
@@ -75,18 +74,18 @@ module _ {V : Type 0} {tally : Ghosts V} {P : Problem tally} where
   rooted_trail (top a s n) = root
   rooted_trail (under z a m g s h p) = up z a (rooted_trail p)
 
-  pub rooted_met : {recs : List (Record V)} {i : ℕ} {r : Record V} {l : List ℕ} → Rooted P recs i r l → Meets P.task r.set
-  rooted_met (top a s n) = subst (λ x. Meets P.task x) (sym s) Meets.goal
+  pub rooted_met : {recs : List (Record V)} {i : ℕ} {r : Record V} {l : List ℕ} → Rooted P recs i r l → Meets P.draft r.set
+  rooted_met (top a s n) = subst (λ x. Meets P.draft x) (sym s) Meets.goal
   rooted_met (under z a m g s h p) = Meets.back (rooted_met p) m g
 
 module _ {V : Type 0} {tally : Ghosts V} {P : Problem tally} (F : Fitting P) where
   abbrev laws : Laws tally
   laws = F.laws
 
-  pub rooted_leads : {recs : List (Record V)} {i : ℕ} {r : Record V} {l : List ℕ} → Rooted P recs i r l → Leads P (goal_of P.task) l r.set r.spent
-  rooted_leads {r = r} (top a s n) = subst (λ x. Leads P (goal_of P.task) [] x r.spent) (sym s) (subst (λ x. Leads P (goal_of P.task) [] (goal_of P.task) x) (sym n) stay)
+  pub rooted_leads : {recs : List (Record V)} {i : ℕ} {r : Record V} {l : List ℕ} → Rooted P recs i r l → Leads P P.draft.goal l r.set r.spent
+  rooted_leads {r = r} (top a s n) = subst (λ x. Leads P P.draft.goal [] x r.spent) (sym s) (subst (λ x. Leads P P.draft.goal [] P.draft.goal x) (sym n) stay)
   rooted_leads (under {m = m} {r = r} {p = p} {l = l} z a at g s h up-there) =
-      subst (λ x. Leads P (goal_of P.task) (r.via ∷ l) r.set x) (laws.lawful.commutative (charge_of tally m) p.spent ∙ sym s) (back (rooted_leads up-there) at g)
+      subst (λ x. Leads P P.draft.goal (r.via ∷ l) r.set x) (laws.lawful.commutative (charge_of tally m) p.spent ∙ sym s) (back (rooted_leads up-there) at g)
 
   module _ {recs : List (Record V)} (table : Table P recs) (settled : Settled P recs) where
     -- a record of u is on the path's front
@@ -96,8 +95,8 @@ module _ {V : Type 0} {tally : Ghosts V} {P : Problem tally} (F : Fitting P) whe
       | inr b ↦ waits at b (subst (λ x. Leads P r.set [] x tally.nil) s stay) (le_trans laws (le_of laws (orders.neutral_right laws.lawful r.spent)) h)
     ]
 
-    pub frontier : {l : List ℕ} {u : FactSet} {v : V} → Leads P (goal_of P.task) l u v → Front P recs u v
-    frontier stay = elim (hoped_or_not (P.bound.estimate (goal_of P.task))) [
+    pub frontier : {l : List ℕ} {u : FactSet} {v : V} → Leads P P.draft.goal l u v → Front P recs u v
+    frontier stay = elim (hoped_or_not (P.bound.estimate P.draft.goal)) [
       | inl e ↦ hopeless e
       | inr e ↦ (let g = table.goal_first e.1 in recorded g.1 g.2 (le_of laws g.3))
     ]
@@ -118,7 +117,7 @@ module _ {V : Type 0} {tally : Ghosts V} {P : Problem tally} (F : Fitting P) whe
         ]
 
     -- every good list has a waiting record that promises no more than it costs
-    pub waiting_below : {l : List ℕ} {v : V} → Good P.task l → Costs tally (moves_of P.task) l v
+    pub waiting_below : {l : List ℕ} {v : V} → GoodIn P.draft l → Costs tally P.draft.moves.now l v
         → (i : ℕ) × (q : Record V) × At recs i q × (q.mark ≡ Waiting) × Le tally q.promise v
     waiting_below {v = v} good costs = found (frontier way.leads)
       where
@@ -129,7 +128,7 @@ module _ {V : Type 0} {tally : Ghosts V} {P : Problem tally} (F : Fitting P) whe
         there = F.trusted.sound.within way.last way.within
 
         found : Front P recs way.last way.cost → (i : ℕ) × (q : Record V) × At recs i q × (q.mark ≡ Waiting) × Le tally q.promise v
-        found (passed a b s h) = absurd (table.outside a b (subst (λ x. Within x (start_of P.task)) (sym s) way.within))
+        found (passed a b s h) = absurd (table.outside a b (subst (λ x. Within x P.draft.start) (sym s) way.within))
         found (hopeless e) = impossible (cc there)
         found (waits {i = i} {q = q} {w = w} a b path h) =
             let few = admissible F path there in
@@ -145,7 +144,7 @@ module _ {V : Type 0} {tally : Ghosts V} {P : Problem tally} (F : Fitting P) whe
                   (le_trans laws (le_of laws (ap (λ x. tally.join q.spent x) (orders.neutral_right laws.lawful w))) (le_trans laws h way.cheap)))),
             )
 
-    pub choice_below : {i : ℕ} {c : Record V} → Chosen tally recs i c → {l : List ℕ} {v : V} → Good P.task l → Costs tally (moves_of P.task) l v
+    pub choice_below : {i : ℕ} {c : Record V} → Chosen tally recs i c → {l : List ℕ} {v : V} → GoodIn P.draft l → Costs tally P.draft.moves.now l v
         → Le tally c.promise v
     choice_below chosen good costs =
         let w = waiting_below good costs in

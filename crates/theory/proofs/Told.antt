@@ -1,7 +1,6 @@
 -- What a reply told earlier still says of the search.
 use Rattle.std.proofs.Common.{◌≡◌, ℕ, List, length, set as put, refl, ap, subst, inl, inr}
 use Rattle.tasks.specs.Places.{At}
-use Rattle.tasks.specs.Tasks.{moves_of}
 use Rattle.tasks.proofs.Places.{at_same}
 use Rattle.costs.specs.declared.tally.Tally.{Ghosts}
 use Rattle.theory.specs.Problem.{Problem}
@@ -90,7 +89,7 @@ module _ {V : Type 0} {tally : Ghosts V} {P : Problem tally} (F : Fitting P) whe
       under_waiting (λ j r a b. le_trans laws (subst (λ y. Le tally x y.promise) (at_same so_far.0 at) (u i c ch.at ch.waits))
       (key_promise laws ((opened F table settled ch w (opens all at)).0.ordered (put_here (shutting q) at) a refl b)))
     where
-      so_far : At mid i c × Opening P (put mid i (shutting c)) i (shutting c) (length (moves_of P.task))
+      so_far : At mid i c × Opening P (put mid i (shutting c)) i (shutting c) (length P.draft.moves.now)
       so_far = take_first F table settled ch w all
 
   overflow_under : {recs : List (Record V)} {i : ℕ} {c : Record V} {x : V} {mid : List (Record V)} → Table P recs → Settled P recs → Chosen tally recs i c

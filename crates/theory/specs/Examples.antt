@@ -1,5 +1,6 @@
 -- A small task worked through by the rules: two moves, and a bound that knows nothing.
 use Rattle.std.specs.Prelude.{ℕ, ◌+◌, max, true, nat_le, List, [], ◌∷◌, Some}
+use Rattle.tasks.specs.Tasks.{draft_of}
 use Rattle.tasks.specs.declared.task.Task.{Task}
 use Rattle.costs.specs.declared.tally.Tally.{Ghosts}
 use Rattle.theory.specs.Problem.{Problem, Lent, Honest}
@@ -19,7 +20,7 @@ abbrev pub blind : Lent ℕ
 blind = record { fits = true; estimate = λ s. Some 0; share = λ k. 0 }
 
 abbrev pub problem : (join : ℕ → ℕ → ℕ) → Task → ℕ → Problem (numbers join)
-problem join task room = record { task = task; bound = blind; room = room }
+problem join task room = record { draft = draft_of task; bound = blind; room = room }
 
 -- a run, with the answer that tells a kind, openings, a value and a length
 abbrev pub pends : ℕ → ℕ → ℕ → Event ℕ

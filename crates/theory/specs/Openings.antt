@@ -3,7 +3,6 @@ use Rattle.std.specs.Prelude.{◌≡◌, ℕ, zero, suc, ◌<◌, ◌≤◌, Lis
 use Rattle.facts.specs.declared.sets.FactSet.{FactSet}
 use Rattle.tasks.specs.Moves.{Regresses}
 use Rattle.tasks.specs.Places.{At}
-use Rattle.tasks.specs.Tasks.{moves_of}
 use Rattle.tasks.specs.declared.moves.Move.{Move}
 use Rattle.costs.specs.Lists.{charge_of}
 use Rattle.costs.specs.declared.tally.Tally.{Ghosts}
@@ -51,15 +50,15 @@ pub data Takes {V : Type 0} {tally : Ghosts V} (P : Problem tally) (recs : List 
 -- the records after the first moves are taken, in rising order
 pub data TakesFirst {V : Type 0} {tally : Ghosts V} (P : Problem tally) (recs : List (Record V)) (i : ℕ) (c : Record V) : ℕ → List (Record V) → Type 0 where
   none_yet : TakesFirst P recs i c zero recs
-  and_next : {k : ℕ} {m : Move} {mid later : List (Record V)} → TakesFirst P recs i c k mid → At (moves_of P.task) k m
+  and_next : {k : ℕ} {m : Move} {mid later : List (Record V)} → TakesFirst P recs i c k mid → At P.draft.moves.now k m
       → Takes P mid i c k m later → TakesFirst P recs i c (suc k) later
 
 -- after the last move the choice is shut
 pub data Opens {V : Type 0} {tally : Ghosts V} (P : Problem tally) (recs : List (Record V)) (i : ℕ) (c : Record V) : List (Record V) → Type 0 where
-  opens : {mid : List (Record V)} {q : Record V} → TakesFirst P recs i c (length (moves_of P.task)) mid → At mid i q
+  opens : {mid : List (Record V)} {q : Record V} → TakesFirst P recs i c (length P.draft.moves.now) mid → At mid i q
       → Opens P recs i c (put mid i (shutting q))
 
 -- a move asks for a record beyond the room lent: the moves before it stay taken, and the choice stays waiting
 pub data Overflows {V : Type 0} {tally : Ghosts V} (P : Problem tally) (recs : List (Record V)) (i : ℕ) (c : Record V) : List (Record V) → Type 0 where
-  overflows : {k : ℕ} {t : FactSet} {m : Move} {e : V} {mid : List (Record V)} → TakesFirst P recs i c k mid → At (moves_of P.task) k m
+  overflows : {k : ℕ} {t : FactSet} {m : Move} {e : V} {mid : List (Record V)} → TakesFirst P recs i c k mid → At P.draft.moves.now k m
       → LeadsTo P c m t e → Unrecorded mid t → P.room ≤ length mid → Overflows P recs i c mid

@@ -1,12 +1,11 @@
 -- What every queue keeps.
 use Rattle.std.specs.Prelude.{◌≡◌, ℕ, ◌+◌, ◌<◌, ◌≤◌, ◌⊎◌, List, [], ◌∷◌, length, ◌≢◌}
-use Rattle.tasks.specs.Lists.{Good}
+use Rattle.tasks.specs.Lists.{GoodIn}
 use Rattle.tasks.specs.Places.{At}
-use Rattle.tasks.specs.Tasks.{moves_of}
 use Rattle.costs.specs.Lists.{Costs}
 use Rattle.costs.specs.declared.tally.Tally.{Ghosts}
 use Rattle.theory.specs.Problem.{Problem, Lent, AtMost, Usable, Honest}
-use Rattle.theory.specs.Meets.{MeetsMore}
+use Rattle.theory.specs.Meets.{MeetsMoreIn}
 use Rattle.theory.specs.Queue.{Call, run, Answer, ran, read, refused, State, kept, holding, Makes, Answers, Event, asked, Queue, SameEstimates, Steady, granted}
 use Rattle.theory.specs.declared.record.Mark.{Mark}
 use Rattle.theory.specs.declared.record.Mark.TheVariants.{Waiting, Shut}
@@ -22,12 +21,12 @@ Floor r = (r.kind ≡ Pending) ⊎ (r.kind ≡ Full)
 
 -- no good list costs less than the value
 abbrev pub BelowAll : {V : Type 0} {tally : Ghosts V} → Problem tally → V → Type 0
-BelowAll {V} {tally} P value = (l : List ℕ) (v : V) → Good P.task l → Costs tally (moves_of P.task) l v → AtMost tally value v
+BelowAll {V} {tally} P value = (l : List ℕ) (v : V) → GoodIn P.draft l → Costs tally P.draft.moves.now l v → AtMost tally value v
 
 -- a good list has the cost and the length told
 pub record Told {V : Type 0} {tally : Ghosts V} (P : Problem tally) (l : List ℕ) (r : Reply V) : Type 0 where
-  pub good : Good P.task l
-  pub costs : Costs tally (moves_of P.task) l r.value
+  pub good : GoodIn P.draft l
+  pub costs : Costs tally P.draft.moves.now l r.value
   pub length_told : length l ≡ r.length
 
 -- how many records are shut
@@ -64,9 +63,9 @@ pub record Promises {V : Type 0} {tally : Ghosts V} (P : Problem tally) (es : Li
   pub readable : (i j : ℕ) (c d : Call V) (r : Reply V) (l : List ℕ) → At es i (asked c (ran r)) → r.kind ≡ Plan → At es j (asked d (read l))
       → Told P l r
   -- after none there is no good list
-  pub hopeless : (i : ℕ) (c : Call V) (r : Reply V) → At es i (asked c (ran r)) → r.kind ≡ NoPlan → (l : List ℕ) → Good P.task l → ⊥
+  pub hopeless : (i : ℕ) (c : Call V) (r : Reply V) → At es i (asked c (ran r)) → r.kind ≡ NoPlan → (l : List ℕ) → GoodIn P.draft l → ⊥
   -- after full regression from the goal meets more sets than there are places
-  pub crowded : (i : ℕ) (c : Call V) (r : Reply V) → At es i (asked c (ran r)) → r.kind ≡ Full → MeetsMore P.task P.room
+  pub crowded : (i : ℕ) (c : Call V) (r : Reply V) → At es i (asked c (ran r)) → r.kind ≡ Full → MeetsMoreIn P.draft P.room
   -- no good list costs less than a floor
   pub floor : (i : ℕ) (c : Call V) (r : Reply V) → At es i (asked c (ran r)) → Floor r → BelowAll P r.value
   -- floors rise

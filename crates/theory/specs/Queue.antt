@@ -3,7 +3,7 @@ use Rattle.std.specs.Prelude.{◌≡◌, ℕ, ◌+◌, ◌<◌, ◌≤◌, true,
 use Rattle.facts.specs.declared.sets.FactSet.{FactSet}
 use Rattle.tasks.specs.Places.{At}
 use Rattle.costs.specs.declared.tally.Tally.{Ghosts}
-use Rattle.bounds.specs.Sound.{Overdrawn as IsOverdrawn}
+use Rattle.bounds.specs.Sound.{OverdrawnIn}
 use Rattle.theory.specs.Problem.{Problem, Lent, handed, Usable, Roomy}
 use Rattle.theory.specs.Records.{First}
 use Rattle.theory.specs.Runs.{Trail, Runs}
@@ -33,7 +33,7 @@ pub data State (V : Type 0) : Type 0 where
 -- a bound that cannot be used: it does not fit, or it fits and is overdrawn
 pub data Unusable {V : Type 0} {tally : Ghosts V} (P : Problem tally) (b : Lent V) : Refusal → Type 0 where
   misfit : b.fits ≡ false → Unusable P b Misfit
-  overdrawn : b.fits ≡ true → IsOverdrawn tally P.task b.share → Unusable P b Overdrawn
+  overdrawn : b.fits ≡ true → OverdrawnIn tally P.draft b.share → Unusable P b Overdrawn
 
 -- a search as it is made
 pub data Makes {V : Type 0} {tally : Ghosts V} (P : Problem tally) : State V → Type 0 where

@@ -1,7 +1,6 @@
 -- The records of a new search, and which of them is the choice.
 use Rattle.std.specs.Prelude.{◌≡◌, ℕ, ◌≤◌, List, [], ◌∷◌, ◌≢◌, None, Some}
 use Rattle.tasks.specs.Places.{At}
-use Rattle.tasks.specs.Tasks.{goal_of}
 use Rattle.costs.specs.declared.tally.Tally.{Ghosts}
 use Rattle.theory.specs.Problem.{Problem, Lower}
 use Rattle.theory.specs.declared.record.Mark.TheVariants.{Waiting, Shut}
@@ -9,12 +8,12 @@ use Rattle.theory.specs.declared.record.Record.{Record}
 
 -- the record of the goal, whose estimate is e
 abbrev pub goal_record : {V : Type 0} {tally : Ghosts V} → Problem tally → V → Record V
-goal_record {tally = tally} P e = record { set = goal_of P.task; spent = tally.nil; promise = e; parent = 65535; via = 65535; mark = Waiting }
+goal_record {tally = tally} P e = record { set = P.draft.goal; spent = tally.nil; promise = e; parent = 65535; via = 65535; mark = Waiting }
 
 -- the records of a new search: none where the estimate of the goal is never
 pub data First {V : Type 0} {tally : Ghosts V} (P : Problem tally) : List (Record V) → Type 0 where
-  goal_waits : {e : V} → P.bound.estimate (goal_of P.task) ≡ Some e → First P (goal_record P e ∷ [])
-  no_hope : P.bound.estimate (goal_of P.task) ≡ None → First P []
+  goal_waits : {e : V} → P.bound.estimate P.draft.goal ≡ Some e → First P (goal_record P e ∷ [])
+  no_hope : P.bound.estimate P.draft.goal ≡ None → First P []
 
 -- record r, number i, comes before record q, number j: by promise, then spent, then number
 pub data Ahead {V : Type 0} (tally : Ghosts V) (r : Record V) (i : ℕ) (q : Record V) (j : ℕ) : Type 0 where

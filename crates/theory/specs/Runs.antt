@@ -2,7 +2,6 @@
 use Rattle.std.specs.Prelude.{ℕ, zero, suc, List, [], ◌∷◌, length, ◌≢◌}
 use Rattle.facts.specs.Sets.{Within}
 use Rattle.tasks.specs.Places.{At}
-use Rattle.tasks.specs.Tasks.{start_of}
 use Rattle.costs.specs.declared.tally.Tally.{Ghosts}
 use Rattle.theory.specs.Problem.{Problem}
 use Rattle.theory.specs.Records.{Chosen, NoneWaits}
@@ -42,7 +41,7 @@ pub data Tells {V : Type 0} {tally : Ghosts V} (P : Problem tally) (recs : List 
 
 -- a set that does not lie within the start
 abbrev pub Outside : {V : Type 0} {tally : Ghosts V} → Problem tally → Record V → Type 0
-Outside P c = Within c.set (start_of P.task) → ⊥
+Outside P c = Within c.set P.draft.start → ⊥
 
 -- a run with a grant: the records and the end before it, its reply, and the records and the end after it
 pub data Runs {V : Type 0} {tally : Ghosts V} (P : Problem tally) : ℕ → List (Record V) → End → Reply V → List (Record V) → End → Type 0 where
@@ -51,7 +50,7 @@ pub data Runs {V : Type 0} {tally : Ghosts V} (P : Problem tally) : ℕ → List
   -- if no record waits, it ends with none
   runs_out : {n : ℕ} {recs : List (Record V)} → NoneWaits recs → Runs P n recs Going (tell_none P) recs Exhausted
   -- if the choice's set lies within the start, it ends with plan at the cost spent
-  finds : {n i : ℕ} {c : Record V} {recs : List (Record V)} {l : List ℕ} → Chosen tally recs i c → Within c.set (start_of P.task)
+  finds : {n i : ℕ} {c : Record V} {recs : List (Record V)} {l : List ℕ} → Chosen tally recs i c → Within c.set P.draft.start
       → Trail recs i l → Runs P n recs Going (tell_plan c (length l)) recs (Planned i)
   -- if the grant is used up, it tells pending; the floor is the choice's promise
   pauses : {i : ℕ} {c : Record V} {recs : List (Record V)} → Chosen tally recs i c → Outside P c

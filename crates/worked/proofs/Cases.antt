@@ -3,6 +3,8 @@ use Rattle.std.proofs.Common.{◌≡◌, ℕ, false, T, leb, List, [], ◌∷◌
 use Rattle.facts.specs.Words.{bit}
 use Rattle.facts.proofs.Tests.{not_both, not_true_false}
 use Rattle.tasks.specs.Places.{At, here, there}
+use Rattle.tasks.specs.Tasks.{draft_of}
+use Rattle.tasks.specs.declared.draft.Draft.{Draft}
 use Rattle.tasks.specs.declared.moves.Move.{Move}
 use Rattle.tasks.specs.declared.task.Task.{Task}
 use Rattle.costs.specs.Estimates.{join_each}
@@ -35,6 +37,7 @@ module _ {V : Type 0} {tally : Ghosts V} where
     -- blind keeps its two laws, and is not overdrawn
     honest : Honest (posing tally t (blind tally) room)
     honest = record {
+      checked = t.checked;
       sound = λ fits. record { within = λ s w. refl; step = λ k m s u a r. laws.least (tally.join tally.nil tally.nil) };
     }
 
@@ -43,6 +46,7 @@ module _ {V : Type 0} {tally : Ghosts V} where
       fitting = record {
         roomy = lit≤ some;
         laws = record { lawful = laws };
+        faultless = t.checked;
         trusted = record {
           sound = honest.sound refl;
           drawn = λ o. not_both (laws.least (charge_of tally o.1)) o.3;
@@ -54,12 +58,12 @@ module _ {V : Type 0} {tally : Ghosts V} where
 
   shown : {P : Problem tally} {es : List (Event V)} {now : State V} → Posed P → Own P es → Queue P es now → Goes P es
   shown {P} p own q =
-      goes P p.fitting.laws.lawful (record { sound = λ fits. p.fitting.trusted.sound }) own q
+      goes P p.fitting.laws.lawful (record { checked = p.fitting.faultless; sound = λ fits. p.fitting.trusted.sound }) own q
 
   made_so : {P : Problem tally} {state : State V} → Makes P state → Made P state
   made_so {P} m = record { makes = m; only = λ other n. makes_same P n m }
 
-  four : {t : Task} {b : Lent V} → Roomy (posing tally t b 4)
+  four : {d : Draft} {b : Lent V} → Roomy {tally = tally} (record { draft = d; bound = b; room = 4 })
   four = record { some = lit≤ tt; few = lit≤ tt }
 
 -- the four records when the plan is found, the last of them at this cost
@@ -97,7 +101,7 @@ worst_usable one other = record { fitting = refl; drawn = λ o. each o.2 o.3 }
     each (there (there a)) e = elim a [ ]
 
 pairs_usable : (pairs : Table minutes startless every_group 2) → Usable (posing minutes startless (reading pairs) 4) (reading pairs)
-pairs_usable pairs = record { fitting = refl; drawn = shares_are_drawn minutes_laws startless every_group }
+pairs_usable pairs = record { fitting = refl; drawn = shares_are_drawn minutes_laws (draft_of startless) every_group }
 
 pub worked_cases : WorkedCases
 unfolding new answer and_run bit
@@ -133,7 +137,7 @@ worked_cases = record {
   no_way_by_pairs = record {
     one = (tables.startless_by_pairs).one;
     all = λ pairs. goes (posing minutes startless (reading pairs) 4) minutes_lawful
-        (record { sound = λ fits. tables.startless_bound pairs }) (refl, tt)
+        (record { checked = startless.checked; sound = λ fits. tables.startless_bound pairs }) (refl, tt)
         (and_call (made (fresh four (pairs_usable pairs) (no_hope ((tables.startless_by_pairs).all pairs))))
         (runs (lit≤ tt) (pairs_usable pairs) (runs_out (λ j q a w. elim a [ ]))));
   };

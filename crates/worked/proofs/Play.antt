@@ -2,7 +2,6 @@
 use Rattle.std.proofs.Common.{◌≡◌, ℕ, ◌≤◌, true, List, [], ◌∷◌, length, ap, subst, subst₂, Some}
 use native.Mathlib.Decide.{ℕ_discrete, dec_lt}
 use Rattle.facts.proofs.Members.{union, without}
-use Rattle.tasks.specs.Tasks.{goal_of}
 use Rattle.costs.specs.declared.tally.Tally.{Ghosts}
 use Rattle.costs.proofs.Orders as orders
 use Rattle.theory.specs.Problem.{Problem, Usable}
@@ -63,7 +62,7 @@ module _ {V : Type 0} {tally : Ghosts V} {P : Problem tally} (posed : Posed P) w
   pub usable : Usable P P.bound
   usable = record { fitting = posed.fits; drawn = posed.fitting.trusted.drawn }
 
-  unfoldable pub new : (e : V) → P.bound.estimate (goal_of P.task) ≡ Some e → Played P
+  unfoldable pub new : (e : V) → P.bound.estimate P.draft.goal ≡ Some e → Played P
   unfolding first_stands alone
   new e h = record {
     events = [];

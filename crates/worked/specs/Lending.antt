@@ -1,7 +1,7 @@
 -- The bounds that are lent to the searches: one that knows nothing, those that read tables, and sums.
 use Rattle.std.specs.Prelude.{ℕ, ◌^◌, true, ◌&&◌, Some}
 use Rattle.facts.specs.declared.sets.FactSet.{FactSet}
-use Rattle.tasks.specs.Tasks.{moves_of}
+use Rattle.tasks.specs.Tasks.{draft_of, moves_of}
 use Rattle.tasks.specs.declared.task.Task.{Task}
 use Rattle.costs.specs.Estimates.{Estimate}
 use Rattle.costs.specs.declared.tally.Tally.{Ghosts}
@@ -39,4 +39,4 @@ summed tally one other = record {
 
 -- a task, a bound, and so many places for records
 abbrev pub posing : {V : Type 0} (tally : Ghosts V) → Task → Lent V → ℕ → Problem tally
-posing tally t b room = record { task = t; bound = b; room = room }
+posing tally t b room = record { draft = draft_of t; bound = b; room = room }

@@ -1,7 +1,7 @@
 use Rattle.std.proofs.Common.{sym, refl, ◌∙◌, subst}
 use Rattle.facts.proofs.Tests.{not_true_false}
 use Rattle.theory.specs.Queue.{misfit, overdrawn}
-use Rattle.bounds.specs.Sound.{Overdrawn}
+use Rattle.bounds.specs.Sound.{OverdrawnIn}
 use Rattle.search.proofs.beginning.judged.Goals as goal
 
 pub returns-then-not-fits : goal.returns-then-not-fits
@@ -15,7 +15,7 @@ returns-then-is_overdrawn g c = record {
   sound = λ fits. c.if-not-fits.ensures.sound tt;
   tells = λ P e.
       overdrawn (sym c.if-not-fits.ensures.told)
-      (subst (λ t. Overdrawn g.V.Tally t (g.B.Bound.shared c.args.bound.now)) (sym e) (c.if-is_overdrawn.ensures.0 refl));
+      (subst (λ d. OverdrawnIn g.V.Tally d (g.B.Bound.shared c.args.bound.now)) (sym e) (c.if-is_overdrawn.ensures.0 refl));
 }
 
 pub returns : goal.returns
@@ -24,6 +24,6 @@ returns g c = record {
   tells = λ P e. record {
     fitting = sym c.if-not-fits.ensures.told;
     drawn = λ over. not_true_false (c.if-is_overdrawn.ensures.1
-        (subst (λ t. Overdrawn g.V.Tally t (g.B.Bound.shared c.args.bound.now)) e over));
+        (subst (λ d. OverdrawnIn g.V.Tally d (g.B.Bound.shared c.args.bound.now)) e over));
   };
 }

@@ -8,7 +8,7 @@ invariant_of-result g c =
     let P = problem_of g.V.Tally g.B.Bound c.args.task c.args.bound.now (length c.args.table.now) in
     let first = c.first_records-records.ensures in
     record {
-      whole = λ e. omega (arith, first.room, first.rest.size, (is_roomy P c.sized_up-made.result c.sized_up-made.ensures.sized e).few);
+      whole = λ e. omega (arith, first.room, first.rest.size, (is_roomy P c.args.task refl c.sized_up-made.result c.sized_up-made.ensures.sized e).few);
       traced = ∣ few_threads _ first.few ∣₁;
     }
 
@@ -17,8 +17,8 @@ returns g c =
     let P = problem_of g.V.Tally g.B.Bound c.args.task c.args.bound.now (length c.args.table.now) in
     let first = c.first_records-records.ensures in
     record {
-      task = refl;
-      honest = record { sound = c.sized_up-made.ensures.sound };
-      makes = is_made P c.sized_up-made.result c.sized_up-made.ensures.sized first.first;
+      draft = refl;
+      honest = record { checked = c.args.task.checked; sound = c.sized_up-made.ensures.sound };
+      makes = is_made P c.args.task refl c.sized_up-made.result c.sized_up-made.ensures.sized first.first;
       rest = past_first c.sized_up-made.result _ _ first.none first.rest;
     }
