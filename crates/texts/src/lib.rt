@@ -7,4 +7,4 @@ mod refused;
 
 pub use drafts::{read_task, room};
 pub use lists::{moves_text, set_text};
-pub use refused::Refused;
+pub use refused::{NumberAndLine, Refused};

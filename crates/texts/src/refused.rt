@@ -1,6 +1,6 @@
 // Why a file is refused, and how that is printed.
 ghost use Rattle.std.specs.Prelude.{◌≡◌, Some};
-ghost use Rattle.texts.specs.Refusals.{of_misread, of_fault, text_of_refused};
+ghost use Rattle.texts.specs.Refusals.{of_misread, of_fault, text_of_refusal, text_of_refused};
 
 use std::fmt;
 use taskfile::Misread;
@@ -30,7 +30,23 @@ impl From<Fault> for Refused {
     }
 }
 
-// The number of the refusal, and the line of the file at fault, 0 where it is none.
+// A refusal by its number, and the line of the file at fault, 0 where it is none.
+#[derive(Clone, Copy, PartialEq, Eq, Debug)]
+pub struct NumberAndLine {
+    pub number: u16,
+    pub line: u32,
+}
+
+impl fmt::Display for NumberAndLine {
+    ghost output = { λ told. Some (text_of_refusal told.number told.line) };
+
+    fn fmt<W: fmt::Write>(&self, f: &mut fmt::Formatter<W>) -> fmt::Result {
+        let number = self.number;
+        let line = self.line;
+        write!(f, "answer=refused\nnumber={number}\nline={line}\n")
+    }
+}
+
 impl fmt::Display for Refused {
     ghost output = { λ refused. Some (text_of_refused refused) };
 
@@ -39,6 +55,7 @@ impl fmt::Display for Refused {
             Refused::File(misread) => (misread.flaw.number(), misread.line),
             Refused::Draft(fault) => (fault.refusal.number(), 0),
         };
-        write!(f, "answer=refused\nnumber={number}\nline={line}\n")
+        let told = NumberAndLine { number, line };
+        write!(f, "{told}")
     }
 }
