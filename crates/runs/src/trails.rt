@@ -42,7 +42,7 @@ pub fn copy_trail<V: Tally>(rows: &[Record<V>], from: u16, list: &mut [u16])
     ensures { (l : List ℕ) → IsTrail rows.now from l → length l ≤ length list.old → list.new ≡ l ++ drop (length l) list.old }
 {
     let mut trail = Trail { rows, at: from }.take(list.len());
-    // by number, since a must-fail edit writes elsewhere; a zip with `iter_mut` was tried: after it nothing is known of what was written
+    // by number: a zip with `iter_mut` was tried, and after it nothing is known of what was written
     for place in 0..list.len() {
         let Some(via) = trail.next() else {
             return;
