@@ -1,8 +1,10 @@
 -- Tests that decide.
-use Rattle.std.proofs.Common.{◌≡◌, ℕ, zero, suc, ◌+◌, ◌<◌, Bool, true, false, ◌&&◌, ◌||◌, T, eqb, List, [], ◌∷◌, Decides, sym, refl, subst, ⊎_elim, arith, eqb→eq}
+use Rattle.std.proofs.Common.{◌≡◌, ℕ, zero, suc, ◌+◌, ◌<◌, Bool, true, false, ◌&&◌, ◌||◌, T, eqb, List, [], ◌∷◌, Some, Decides, sym, refl, subst, ⊎_elim, arith, eqb→eq}
 use Rattle.std.specs.List.{list_all}
-use Rattle.std.proofs.lemmas.Bool.{cases_eq, cases_Bool}
-use Rattle.facts.proofs.Tests.{from_true, to_true, not_both, and_left, and_right, and_both}
+use Rattle.std.proofs.lemmas.Bool.{cases_eq, cases_Bool, false≢true}
+use Rattle.facts.specs.Sets.{has, Within, Next}
+use Rattle.facts.specs.declared.sets.FactSet.{FactSet}
+use Rattle.facts.proofs.Tests.{from_true, to_true, not_both, same_tests, and_left, and_right, and_both}
 use Rattle.tasks.specs.Places.{At, here, there}
 use Rattle.tasks.specs.declared.moves.Move.{Move}
 use Rattle.costs.specs.Estimates.{not_above}
@@ -13,7 +15,7 @@ use Rattle.tables.specs.Nets.{every}
 use Rattle.tables.specs.Reading.{Top}
 use Rattle.tables.proofs.Order as order
 use Rattle.tables.proofs.Order.{LawsOf}
-use Rattle.tables.proofs.Subsets.{eqb_from}
+use Rattle.tables.proofs.Subsets.{Gone, eqb_from, walked, over}
 use Rattle.tables.proofs.Tops.{top_below}
 
 pub decides_test : (b : Bool) → Decides b (T b)
@@ -21,6 +23,9 @@ decides_test b = ((λ e. from_true e), λ h. to_true h)
 
 pub decides_like : {P Q : Type 0} {b : Bool} → (P → Q) → (Q → P) → Decides b P → Decides b Q
 decides_like to from d = ((λ e. to (d.0 e)), λ q. d.1 (from q))
+
+pub decides_same : {P : Type 0} (a b : Bool) → Decides a P → Decides b P → a ≡ b
+decides_same a b d e = same_tests (λ h. from_true (e.1 (d.0 (to_true h)))) (λ h. from_true (d.1 (e.0 (to_true h))))
 
 pub decides_and : {P Q : Type 0} (a b : Bool) → Decides a P → Decides b Q → Decides (a && b) (P × Q)
 decides_and a b d e =
@@ -51,6 +56,21 @@ module _ {P : Move → Type 0} (test : Move → Bool) (d : (m : Move) → Decide
       split : P n × ((j : ℕ) (m : Move) → At moves j m → P m) → (j : ℕ) (m : Move) → At (n ∷ moves) j m → P m
       split w j m here = w.0
       split w j m (there at) = w.1 _ m at
+
+-- a loop over the facts of a set that stops at the first that fails
+module _ (P : ℕ → Type 0) (s all left : FactSet) where
+  pub fails_at : (after : FactSet) (x : ℕ) → all ≡ s → Within left all → Next left (Some x) after → (P x → ⊥) → Decides false ((p : ℕ) → T (has s p) → P p)
+  fails_at after x is within next fails = ((λ e. absurd (false≢true e)), λ h. absurd (fails (h x (subst (λ y. T (has y x)) is (within x next.0)))))
+
+  pub holds_more : (after : FactSet) (x : ℕ) → Within left all → Next left (Some x) after → ((p : ℕ) → Gone all left p → P p) → P x
+      → Within after all × ((p : ℕ) → Gone all after p → P p)
+  holds_more after x within next old now = let step = walked within next in (
+    step.within,
+    λ p gone. ⊎_elim (old p) (λ e. subst P (sym e) now) (step.more p gone),
+  )
+
+  pub holds_all : all ≡ s → ((f : ℕ) → has left f ≡ false) → ((p : ℕ) → Gone all left p → P p) → Decides true ((p : ℕ) → T (has s p) → P p)
+  holds_all is none old = ((λ e p h. old p ((over is none).whole p h)), λ h. refl)
 
 -- the same of a prefix, one longer
 pub every_more : (n : ℕ) (test : ℕ → Bool) → every n test ≡ true → test n ≡ true → every (n + 1) test ≡ true

@@ -16,7 +16,7 @@ use Rattle.costs.specs.declared.tally.Tally.{Ghosts}
 use Rattle.bounds.specs.Sound.{NotAbove}
 use Rattle.tables.specs.Equation.{Setting, offer_of}
 use Rattle.tables.specs.Laid.{Shape, Numbered, Tops, Known, Closed, Laid}
-use Rattle.tables.specs.Nets.{pairs, Present, heads, besides, besides_estimate, PairsAgree, keeps_beside}
+use Rattle.tables.specs.Nets.{pairs, Present, heads, besides, besides_estimate, UnderOffer, PairsAgree, keeps_beside}
 use Rattle.tables.specs.Reading.{Two, Both, Top, highest_two, estimate_by_pairs, past}
 use Rattle.tables.specs.Rules.{Rules, keeps}
 use Rattle.tables.specs.Settling.{Step, via, Backed, unreached, begun, stepped, Sure, Relaxing, Turned, Before, Lowers, touches, both, Beside}
@@ -363,18 +363,25 @@ module _ {V : Type 0} {tally : Ghosts V} (laws : LawsOf tally) (b : Setting) whe
     PairTested m = (k : Two) → T (heads m k.0) × T (heads m k.1) → NotAbove tally (val k) (offer m (estimate_by_pairs tally val m.needs))
 
     abbrev BesideTested : Move → ℕ → Type 0
-    BesideTested m r = (T (has m.breaks r || has m.makes r) → ⊥) → (p : ℕ) → T (heads m p) → NotAbove tally (val (r, p)) (offer m (besides_estimate tally val m r))
+    BesideTested m r = (T (has m.breaks r || has m.makes r) → ⊥) → UnderOffer tally b val m r
 
     abbrev MoveTested : Move → Type 0
     MoveTested m = PairTested m × ((r : ℕ) → r < b.facts → BesideTested m r)
+
+    -- the same as it is read
+    abbrev pub BesideEach : Move → Type 0
+    BesideEach m = (r : ℕ) → r < b.facts → (T (has m.breaks r) → ⊥) → UnderOffer tally b val m r
+
+    abbrev pub AloneTested : Move → Type 0
+    AloneTested m = (p : ℕ) → T (heads m p) → NotAbove tally (val (p, p)) (offer m (estimate_by_pairs tally val m.needs))
 
     abbrev RowsTested : Type 0
     RowsTested = (p : ℕ) → p < b.facts → (q : ℕ) → q < b.facts → NotAbove tally (val (p, p)) (val (p, q)) × NotAbove tally (val (p, q)) (val (q, p))
 
     pub beside_tells : (m : Move) (r : ℕ) → Decides (keeps_beside tally b val m r) (BesideTested m r)
-    beside_tells m r = decides_or_not (has m.breaks r || has m.makes r) _ (top_tells laws _ _ (heads_top laws b (λ p. val (r, p)) m))
+    beside_tells m r = decides_or_not (has m.breaks r || has m.makes r) _ (top_tells laws _ _ (heads_top laws b (λ p. val (p, r)) m))
 
-    pub two_heads_top : (m : Move) → Top tally (λ k. T (heads m k.0) × T (heads m k.1)) val (highest_two tally (heads m) val (past m.makes))
+    two_heads_top : (m : Move) → Top tally (λ k. T (heads m k.0) × T (heads m k.1)) val (highest_two tally (heads m) val (past m.makes))
     two_heads_top m = two_top laws (heads m) val (past m.makes) (λ p h. has_past m.makes p (head_parts m p h).0)
 
     move_tells : (m : Move) → Decides ((pairs tally b).keeps_move val m) (MoveTested m)
@@ -399,10 +406,35 @@ module _ {V : Type 0} {tally : Ghosts V} (laws : LawsOf tally) (b : Setting) whe
       agree_from : RowsTested → PairsAgree tally val
       agree_from rows = record { single = single_from rows; turned = turned_from rows }
 
+      -- beside each fact of the table that the move does not break, its heads; and each head alone, since one past the table is not among these facts
+      pub read_tells : (m : Move) → Decides ((pairs tally b).keeps_move val m) (BesideEach m × AloneTested m)
+      read_tells m = decides_like to from (move_tells m)
+        where
+          made_estimate : (r : ℕ) → T (has m.makes r) → besides_estimate tally val m r ≡ estimate_by_pairs tally val m.needs
+          made_estimate r made = sym (target_estimate laws val m r) ∙ ap (estimate_by_pairs tally val) (target_made m r made)
+
+          to : MoveTested m → BesideEach m × AloneTested m
+          to tested = (
+            (λ r l whole p head. ⊎_elim
+                (λ made. let other = from_true made in subst (λ e. NotAbove tally (val (p, r)) (offer m e)) (sym (made_estimate r other)) (tested.0 (p, r) (head, head_from m r other whole)))
+                (λ unmade. tested.1 r l (λ o. ⊎_elim whole (λ x. not_both x unmade) (or_cases (has m.breaks r) (has m.makes r) o)) p head)
+                (cases_Bool (has m.makes r))),
+            λ p head. tested.0 (p, p) (head, head),
+          )
+
+          from : BesideEach m × AloneTested m → MoveTested m
+          from w = (
+            (λ k h. let parts = head_parts m k.1 h.1 in ⊎_elim
+                (λ l. subst (λ e. NotAbove tally (val k) (offer m e)) (made_estimate k.1 parts.0) (w.0 k.1 l parts.1 k.0 h.0))
+                (λ l. subst (λ x. NotAbove tally x (offer m (estimate_by_pairs tally val m.needs))) (off (k.1, k.1) (inl l) ∙ sym (off k (inr l))) (w.1 k.1 h.1))
+                (cases_lt k.1 b.facts)),
+            λ r l free p head. w.0 r l (λ x. free (or_left (has m.breaks r) (has m.makes r) x)) p head,
+          )
+
       -- a head beside r: another head, or a fact that stays, or one past the table
-      first_from : PairsAgree tally val → (m : Move) (s t : FactSet) (p r : ℕ) → MoveTested m → Both s (p, r) → Regresses m s t → T (heads m p)
+      first_from : (m : Move) (s t : FactSet) (p r : ℕ) → MoveTested m → Both s (p, r) → Regresses m s t → T (heads m p)
           → NotAbove tally (val (p, r)) (via tally (pairs tally b) m val t)
-      first_from agree m s t p r tested both g head =
+      first_from m s t p r tested both g head =
           let whole : T (has m.breaks r) → ⊥ = λ x. g.breaks (r, x, both_second both) in
           let to : t ≡ target m r = regresses_same g (pair_regresses m s p r both head whole) in
           let Allowed : FactSet → Type 0 = λ x. NotAbove tally (val (p, r)) (offer m (estimate_by_pairs tally val x)) in
@@ -410,8 +442,7 @@ module _ {V : Type 0} {tally : Ghosts V} (laws : LawsOf tally) (b : Setting) whe
           (λ made. let other = from_true made in subst Allowed (sym (to ∙ target_made m r other)) (tested.0 (p, r) (head, head_from m r other whole)))
           (λ unmade. ⊎_elim
           (λ l. subst (λ x. NotAbove tally (val (p, r)) (offer m x)) (sym (ap (estimate_by_pairs tally val) to ∙ target_estimate laws val m r))
-          (subst (λ x. NotAbove tally x (offer m (besides_estimate tally val m r))) (agree.turned r p)
-          (tested.1 r l (λ o. ⊎_elim whole (λ x. not_both x unmade) (or_cases (has m.breaks r) (has m.makes r) o)) p head)))
+          (tested.1 r l (λ o. ⊎_elim whole (λ x. not_both x unmade) (or_cases (has m.breaks r) (has m.makes r) o)) p head))
           (λ l. let stays = swap_kept (regresses_swaps g) r (both_second both) (λ x. not_both x unmade) in
           let never : estimate_by_pairs tally val t ≡ None = order.antisymmetric laws (estimate_by_pairs tally val t) None (order.top laws (estimate_by_pairs tally val t))
           (subst (λ x. NotAbove tally x (estimate_by_pairs tally val t)) (off (r, r) (inl l)) ((pairs_top laws val t).upper (r, r) (stays, stays))) in
@@ -423,8 +454,8 @@ module _ {V : Type 0} {tally : Ghosts V} (laws : LawsOf tally) (b : Setting) whe
       rules_from start moves rows = let agree = agree_from rows in record {
         start = λ k i. order.antisymmetric laws (val k) (Some tally.nil) (start k i) (order.least laws (val k));
         moves = λ j m k s t at names g. ⊎_elim
-            (λ head. first_from agree m s t k.0 k.1 (moves j m at) names g head)
-            (λ head. subst (λ x. NotAbove tally x (via tally (pairs tally b) m val t)) (agree.turned k.1 k.0) (first_from agree m s t k.1 k.0 (moves j m at) (both_turned k.0 k.1 names) g head))
+            (λ head. first_from m s t k.0 k.1 (moves j m at) names g head)
+            (λ head. subst (λ x. NotAbove tally x (via tally (pairs tally b) m val t)) (agree.turned k.1 k.0) (first_from m s t k.1 k.0 (moves j m at) (both_turned k.0 k.1 names) g head))
             (head_of m s t k names g);
         further = agree;
       }
@@ -437,8 +468,7 @@ module _ {V : Type 0} {tally : Ghosts V} (laws : LawsOf tally) (b : Setting) whe
       move_from j m at = (
         (λ k h. let parts = head_parts m k.1 h.1 in
             subst (λ x. NotAbove tally (val k) (offer m (estimate_by_pairs tally val x))) (target_made m k.1 parts.0) (to_target j m at k.0 k.1 h.0 parts.1)),
-        λ r l unmade p head. subst (λ x. NotAbove tally x (offer m (besides_estimate tally val m r))) (rules.further.turned p r)
-            (subst (λ x. NotAbove tally (val (p, r)) (offer m x)) (target_estimate laws val m r) (to_target j m at p r head (λ x. unmade (or_left (has m.breaks r) (has m.makes r) x)))),
+        λ r l unmade p head. subst (λ x. NotAbove tally (val (p, r)) (offer m x)) (target_estimate laws val m r) (to_target j m at p r head (λ x. unmade (or_left (has m.breaks r) (has m.makes r) x))),
       )
 
       rows_from : RowsTested

@@ -87,10 +87,14 @@ pub record PairsAgree {V : Type 0} (tally : Ghosts V) (val : Two → Estimate V)
 abbrev pub besides_estimate : {V : Type 0} → Ghosts V → (Two → Estimate V) → Move → ℕ → Estimate V
 besides_estimate tally val m r = highest_two tally (besides m r) val (suc r + past m.needs)
 
+-- the heads of a move beside r are at most what it offers for them
+abbrev pub UnderOffer : {V : Type 0} → Ghosts V → Setting → (Two → Estimate V) → Move → ℕ → Type 0
+UnderOffer tally b val m r = (p : ℕ) → T (heads m p) → NotAbove tally (val (p, r)) (offer_of tally b m (besides_estimate tally val m r))
+
 -- the heads of a move beside r, a fact that it neither makes nor breaks
 abbrev pub keeps_beside : {V : Type 0} → Ghosts V → Setting → (Two → Estimate V) → Move → ℕ → Bool
 keeps_beside tally b val m r =
-    (has m.breaks r || has m.makes r) || not_above tally.at_most (highest tally (heads m) (λ p. val (r, p)) (past m.makes)) (offer_of tally b m (besides_estimate tally val m r))
+    (has m.breaks r || has m.makes r) || not_above tally.at_most (highest tally (heads m) (λ p. val (p, r)) (past m.makes)) (offer_of tally b m (besides_estimate tally val m r))
 
 -- the same of one pair, as a test
 abbrev pub agrees_at : {V : Type 0} → Ghosts V → (Two → Estimate V) → ℕ → ℕ → Bool

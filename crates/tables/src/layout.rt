@@ -1,5 +1,6 @@
 // How the places of a table are laid out: which sets they belong to, and what a move says of them.
 ghost use Rattle.std.specs.Prelude.{◌≡◌, ◌<◌, length};
+ghost use Rattle.costs.specs.Estimates.{not_above};
 ghost use Rattle.tables.specs.Equation.{Setting};
 ghost use Rattle.tables.specs.Laid.{Laid};
 ghost use Rattle.tables.specs.Nets.{Net, place_of, estimate_by};
@@ -34,6 +35,11 @@ pub trait Layout<V: Tally> {
     // The highest place among the parts of the set, nil if there is none.
     fn estimate(places: &Places<'_, '_, V>, set: FactSet) -> Estimate<V>
         ensures { result ≡ estimate_by (net (setting_in places.now.origin)) places.now.table.now set };
+
+    // Whether the highest place among the parts of the set is at most the limit.
+    // It ends at the first place above the limit, where `estimate` reads them all.
+    fn is_at_most(places: &Places<'_, '_, V>, set: FactSet, limit: Estimate<V>) -> bool
+        ensures { result ≡ not_above V.Tally.at_most (estimate_by (net (setting_in places.now.origin)) places.now.table.now set) limit };
 
     // Lowers what the move makes, where its needs have the place just settled; at first, all of that.
     // The table comes bare: a struct whose ghost field counts the places of a layout cannot be passed to that layout's own functions.

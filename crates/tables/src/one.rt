@@ -1,7 +1,9 @@
 // One place for each fact: place p has the estimate of the set of fact p.
-ghost use Rattle.std.specs.Prelude.{◌≡◌, ◌<◌, T, length};
+ghost use Rattle.std.specs.Prelude.{◌≡◌, ◌↔◌, ℕ, ◌<◌, T, IsTrue, length};
 ghost use Rattle.facts.specs.Sets.{has};
-ghost use Rattle.tables.specs.Nets.{singles, Present, place_of};
+ghost use Rattle.costs.specs.Estimates.{not_above};
+ghost use Rattle.bounds.specs.Sound.{NotAbove};
+ghost use Rattle.tables.specs.Nets.{singles, Present, place_of, estimate_by};
 ghost use Rattle.tables.specs.Origins.{setting_in, single_values};
 ghost use Rattle.tables.specs.Reading.{Top};
 ghost use Rattle.tables.specs.Settling.{Lowers, Takes, touches};
@@ -41,6 +43,12 @@ impl<V: Tally> Layout<V> for One {
         places.highest_single(set)
     }
 
+    fn is_at_most(places: &Places<'_, '_, V>, set: FactSet, limit: Estimate<V>) -> bool
+        ensures { result ≡ not_above V.Tally.at_most (estimate_by (singles V.Tally (setting_in places.now.origin)) places.now.table.now set) limit }
+    {
+        places.singles_within(set, limit)
+    }
+
     fn take(origin: &Origin<'_>, m: &Move, settled: Option<u8>, table: &mut [Estimate<V>])
         requires { length table.old ≡ origin.now.facts }
         ensures { Takes V.Tally (singles V.Tally (setting_in origin.now)) m.now settled table.old table.new }
@@ -58,9 +66,7 @@ impl<V: Tally> Layout<V> for One {
 
     fn keeps_move(places: &Places<'_, '_, V>, m: &Move) -> bool {
         let offer = places.origin.offer(m, places.highest_single(m.needs));
-        places
-            .highest_single(m.makes.without(m.breaks))
-            .at_most(offer)
+        places.singles_within(m.makes.without(m.breaks), offer)
     }
 
     fn keeps_further(_places: &Places<'_, '_, V>) -> bool {
@@ -93,6 +99,19 @@ impl<V: Tally> Places<'_, '_, V> {
             top = top.larger(self.single(fact));
         }
         top
+    }
+
+    // Whether the place of each fact of the set is at most the limit; the first that is above it ends the search.
+    // Apart from `column_within`, as `highest_single` is from `row`.
+    fn singles_within(&self, set: FactSet, limit: Estimate<V>) -> bool
+        ensures { IsTrue result ↔ ((p : ℕ) → T (has set p) → NotAbove V.Tally (single_values V.Tally self.now p) limit) }
+    {
+        for fact in set.iter() {
+            if !self.single(fact).at_most(limit) {
+                return false;
+            }
+        }
+        true
     }
 }
 

@@ -57,8 +57,9 @@ impl<'t, 'a, V: Tally, L: Layout<V>> Table<'t, 'a, V, L> {
     fn keeps_rules(&self) -> bool
         ensures { result ≡ keeps V.Tally (L.Layout.net (setting_in self.now.places.origin)) (place_of (L.Layout.net (setting_in self.now.places.origin)) self.now.places.table.now) }
     {
-        let start = L::estimate(&self.places, self.places.origin.start);
-        start.at_most(Estimate::<V>::nil()) && self.keeps_moves() && L::keeps_further(&self.places)
+        self.keeps_moves()
+            && L::is_at_most(&self.places, self.places.origin.start, Estimate::<V>::nil())
+            && L::keeps_further(&self.places)
     }
 }
 

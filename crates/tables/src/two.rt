@@ -1,7 +1,9 @@
 // A place for each two facts: place p × F + q has the estimate of the set of p and q.
 ghost use Rattle.std.specs.Prelude.{◌≡◌, ◌↔◌, ℕ, ◌*◌, ◌+◌, ◌<◌, ◌≤◌, ◌&&◌, T, IsTrue, ◌⊎◌, length};
 ghost use Rattle.facts.specs.Sets.{has};
-ghost use Rattle.tables.specs.Nets.{pairs, Present, place_of, every, besides, keeps_beside, agrees_at};
+ghost use Rattle.costs.specs.Estimates.{not_above};
+ghost use Rattle.bounds.specs.Sound.{NotAbove};
+ghost use Rattle.tables.specs.Nets.{pairs, Present, place_of, estimate_by, every, besides, UnderOffer, agrees_at};
 ghost use Rattle.tables.specs.Origins.{setting_in, pair_values};
 ghost use Rattle.tables.specs.Reading.{Top};
 ghost use Rattle.tables.specs.Settling.{Lowers, Beside, Takes, touches, both};
@@ -41,6 +43,12 @@ impl<V: Tally> Layout<V> for Two {
         places.highest_pair(set)
     }
 
+    fn is_at_most(places: &Places<'_, '_, V>, set: FactSet, limit: Estimate<V>) -> bool
+        ensures { result ≡ not_above V.Tally.at_most (estimate_by (pairs V.Tally (setting_in places.now.origin)) places.now.table.now set) limit }
+    {
+        places.pairs_within(set, limit)
+    }
+
     fn take(origin: &Origin<'_>, m: &Move, settled: Option<(u8, u8)>, table: &mut [Estimate<V>])
         requires { length table.old ≡ origin.now.facts * origin.now.facts }
         ensures { Takes V.Tally (pairs V.Tally (setting_in origin.now)) m.now settled table.old table.new }
@@ -77,11 +85,9 @@ impl<V: Tally> Layout<V> for Two {
 
     fn keeps_move(places: &Places<'_, '_, V>, m: &Move) -> bool {
         let base = places.highest_pair(m.needs);
-        let offer = places.origin.offer(m, base);
-        places
-            .highest_pair(m.makes.without(m.breaks))
-            .at_most(offer)
-            && places.keeps_all_beside(m, base)
+        // each head alone too, since one past the table is beside none of its facts
+        places.keeps_all_beside(m, base)
+            && places.alone_within(m.makes.without(m.breaks), places.origin.offer(m, base))
     }
 
     fn keeps_further(places: &Places<'_, '_, V>) -> bool {
@@ -150,18 +156,56 @@ impl<V: Tally> Places<'_, '_, V> {
         }
     }
 
-    // Whether the heads of the move beside every fact are at most what it offers for them.
+    // Whether the places of the set's facts with r are at most the limit; the first that is above it ends the search.
+    fn column_within(&self, set: FactSet, r: u8, limit: Estimate<V>) -> bool
+        ensures { IsTrue result ↔ ((p : ℕ) → T (has set p) → NotAbove V.Tally (pair_values V.Tally self.now (p, r)) limit) }
+    {
+        for p in set.iter() {
+            if !self.pair(p, r).at_most(limit) {
+                return false;
+            }
+        }
+        true
+    }
+
+    // Whether the places of two facts of the set are at most the limit, column by column.
+    fn pairs_within(&self, set: FactSet, limit: Estimate<V>) -> bool
+        ensures { IsTrue result ↔ ((r : ℕ) → T (has set r) → (p : ℕ) → T (has set p) → NotAbove V.Tally (pair_values V.Tally self.now (p, r)) limit) }
+    {
+        for r in set.iter() {
+            if !self.column_within(set, r, limit) {
+                return false;
+            }
+        }
+        true
+    }
+
+    // Whether the single of each fact of the set is at most the limit.
+    // Apart from `column_within`: the place read differs, as between `row` and `highest_single`.
+    fn alone_within(&self, set: FactSet, limit: Estimate<V>) -> bool
+        ensures { IsTrue result ↔ ((p : ℕ) → T (has set p) → NotAbove V.Tally (pair_values V.Tally self.now (p, p)) limit) }
+    {
+        for p in set.iter() {
+            if !self.pair(p, p).at_most(limit) {
+                return false;
+            }
+        }
+        true
+    }
+
+    // Whether the heads of the move beside every fact that it does not break are at most what it offers for them.
     fn keeps_all_beside(&self, m: &Move, base: Estimate<V>) -> bool
         requires { Top V.Tally (λ k. T (has m.now.needs k.0) × T (has m.now.needs k.1)) (pair_values V.Tally self.now) base }
-        ensures { result ≡ every self.now.origin.facts (keeps_beside V.Tally (setting_in self.now.origin) (pair_values V.Tally self.now) m.now) }
+        ensures { IsTrue result ↔ ((r : ℕ) → r < self.now.origin.facts → (T (has m.now.breaks r) → ⊥) → UnderOffer V.Tally (setting_in self.now.origin) (pair_values V.Tally self.now) m.now r) }
     {
+        let heads = m.makes.without(m.breaks);
         // a loop, since `all` over a range leaves the clause open
         for r in 0..self.origin.facts {
-            if m.breaks.has(r) | m.makes.has(r) {
+            if m.breaks.has(r) {
                 continue;
             }
             let offer = self.origin.offer(m, self.with_beside(m, base, r));
-            if !self.row(r, m.makes.without(m.breaks)).at_most(offer) {
+            if !self.column_within(heads, r, offer) {
                 return false;
             }
         }
