@@ -1,5 +1,5 @@
 -- The places of a table in its list.
-use Rattle.std.proofs.Common.{◌≡◌, ℕ, zero, suc, ◌+◌, ◌<◌, ◌≤◌, Bool, true, false, cond, ◌≢◌, ◌⊎◌, List, [], ◌∷◌, ◌++◌, length, get_or, set, replicate, Some, None, Option, sym, refl, ap, ◌∙◌, subst, inl, inr, ⊎_elim, arith}
+use Rattle.std.proofs.Common.{◌≡◌, ℕ, zero, suc, ◌+◌, ◌<◌, ◌≤◌, Bool, true, false, cond, ◌≢◌, ◌⊎◌, List, [], ◌∷◌, ◌++◌, length, get_or, set, replicate, None, sym, refl, ap, ◌∙◌, subst, inl, inr, ⊎_elim, arith}
 use Rattle.std.proofs.lemmas.List.{get_or-set_same, get_or-set_other}
 use Rattle.std.proofs.lemmas.Bool.{cases_eq, cond-true, cond-false, cases_Bool}
 use Rattle.facts.proofs.Tests.{from_true, to_true}
@@ -7,7 +7,6 @@ use Rattle.costs.specs.Choices.{Smaller}
 use Rattle.costs.specs.Estimates.{not_above}
 use Rattle.costs.specs.Estimates.{Estimate}
 use Rattle.costs.specs.declared.tally.Tally.{Ghosts}
-use Rattle.bounds.specs.Sound.{NotAbove}
 use Rattle.tables.specs.Equation.{Setting}
 use Rattle.tables.specs.Laid.{Numbered}
 use Rattle.tables.specs.Nets.{Net, Present, read, place_of}
@@ -62,17 +61,6 @@ same_past out [] (y ∷ old) rest e k l = absurd (omega (arith, e))
 same_past out (x ∷ new) [] rest e k l = absurd (omega (arith, e))
 same_past out (x ∷ new) (y ∷ old) rest e zero l = absurd (omega arith)
 same_past out (x ∷ new) (y ∷ old) rest e (suc k) l = same_past out new old rest (omega (arith, e)) k (omega arith)
-
--- the least open place so far
-pub record Chosen {V : Type 0} (tally : Ghosts V) (done : List Bool) (table : List (Estimate V)) (i u : ℕ) (v : V) : Type 0 where
-  pub inside : u < length table
-  pub undone : get_or done u false ≡ false
-  pub value : get_or table u None ≡ Some v
-  pub least : (w : ℕ) → w < i → get_or done w false ≡ false → NotAbove tally (Some v) (get_or table w None)
-
-abbrev pub Best : {V : Type 0} → Ghosts V → List Bool → List (Estimate V) → ℕ → Option (ℕ × V) → Type 0
-Best tally done table i None = (w : ℕ) → w < i → get_or done w false ≡ false → get_or table w None ≡ None
-Best tally done table i (Some k) = Chosen tally done table i k.0 k.1
 
 -- how many places are open
 abbrev pub undone : List Bool → ℕ

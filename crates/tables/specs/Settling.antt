@@ -113,13 +113,3 @@ pub record Cheapest {V : Type 0} (tally : Ghosts V) (done : List Bool) (table : 
 abbrev pub Picks : {V : Type 0} → Ghosts V → List Bool → List (Estimate V) → Option ℕ → Type 0
 Picks tally done table (Some u) = Cheapest tally done table u
 Picks tally done table None = (v : ℕ) → v < length table → slice_index_or done v false ≡ false → slice_index_or table v None ≡ None
-
--- the value of the place chosen so far
-abbrev pub least_of : {V : Type 0} → Option (ℕ × V) → Estimate V
-least_of None = None
-least_of (Some k) = Some k.1
-
--- the choice stays, or it is this place, where that is less
-abbrev pub Lesser : {V : Type 0} → Ghosts V → Option (ℕ × V) → ℕ → Estimate V → Option (ℕ × V) → Type 0
-Lesser {V} tally best number value to =
-    ((to ≡ best) × NotAbove tally (least_of best) value) ⊎ ((v : V) × (value ≡ Some v) × (to ≡ Some (number, v)) × NotAbove tally value (least_of best))

@@ -2,7 +2,7 @@
 ghost use Rattle.std.specs.Prelude.{◌≡◌, ◌<◌, ◌≤◌, length};
 ghost use Rattle.tables.specs.Laid.{Known};
 ghost use Rattle.tables.specs.Origins.{setting_in};
-ghost use Rattle.tables.specs.Settling.{LowersAt, Picks, Lesser, Begun, Before, Turned, touches};
+ghost use Rattle.tables.specs.Settling.{LowersAt, Picks, Begun, Before, Turned, touches};
 ghost use Rattle.tables.specs.Nets.{place_of};
 ghost use Rattle.tables.specs.Worked.{WorkedOut};
 
@@ -23,29 +23,16 @@ fn cheapest<V: Tally>(done: &[bool], table: &[Estimate<V>]) -> Option<usize>
     requires { length table.now ≤ length done.now }
     ensures { Picks V.Tally done.now table.now result }
 {
-    let mut best = None;
+    let mut best: Estimate<V> = None;
+    let mut chosen = 0;
     // a zip of the two was tried: the proof then has the iterators' names alone
     for (number, value) in table.iter().enumerate() {
-        if !done[number] {
-            best = lesser(best, number, *value);
+        if !done[number] && !best.at_most(*value) {
+            best = *value;
+            chosen = number;
         }
     }
-    best.map(|(number, _)| number)
-}
-
-// The place chosen so far with its value, or this one where that is less.
-fn lesser<V: Tally>(
-    best: Option<(usize, V)>,
-    number: usize,
-    value: Estimate<V>,
-) -> Option<(usize, V)>
-    ensures { Lesser V.Tally best number value result }
-{
-    match (best, value) {
-        (_, None) => best,
-        (Some((_, least)), Some(value)) if least.at_most(value) => best,
-        (_, Some(value)) => Some((number, value)),
-    }
+    best.map(|_| chosen)
 }
 
 // Nil at the sets within the start, never elsewhere.
